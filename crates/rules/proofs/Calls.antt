@@ -1,0 +1,132 @@
+-- Each of the seven calls, where no check refuses it, keeps the relation of bank and table and gives equal answers.
+use mathlib.Core.Path.{_≡_, refl, sym, ap, _∙_}
+use mathlib.Core.Logic.{_⊎_, inl, inr}
+use mathlib.Core.Bool.{Bool, true, false, _&&_, not, cond}
+use mathlib.Core.List.{List}
+use Prim.Native.Nat.{ℕ, _+_, _≤_, _<_}
+use native.Mathlib.Omega.{arith}
+use lib.IntN.{ℤ, pos}
+use lib.ListN.{length, getD}
+use lib.Dec.{T, ltb, leb, eqb, ltb→lt, leb→le, eqb→eq, nltb→le}
+use Rattle.rules.specs.Words.{Call, select, write, read, byteWrite, byteRead, publish, apply, Answer, number}
+use Rattle.rules.specs.Load.{Map}
+use Rattle.rules.specs.Place.{entry, partsOf, widthOf, isSet, isStaged, isRW, isLane, hasField, heldBy, holds, lengthOf}
+use Rattle.rules.specs.Accept.{accepts, toBits}
+use Rattle.rules.specs.Layout.{setStart}
+use Rattle.rules.specs.Refuse.{firstOf, exists, misdirected, unaccepted}
+use Rattle.rules.specs.Bank.{Bank, numberIn, bankCopies, bankPlan, applyBank, bankDoes}
+use Rattle.rules.specs.Table.{Table, renumbered, tableCopies, tablePlan, changes, tableDoes}
+use Rattle.rules.proofs.Tests.{and₂, and₃, either, is-true, is-false, not-or, not-not, not-and, and-no}
+use Rattle.rules.proofs.Rows.{accepts-fits}
+use Rattle.rules.proofs.Good.{GoodMap, rw-held}
+use Rattle.rules.proofs.Places.{Field, field-of, field-holds, staged-set, active-held, read-held}
+use Rattle.rules.proofs.Bytes.{byte-ext, byte-of-bank}
+use Rattle.rules.proofs.Gaps.{field-bits}
+use Rattle.rules.proofs.Holds.{Holds, holds-ext, bits-of, put-holds, select-holds, byte-holds}
+use Rattle.rules.proofs.Plans.{staged-field, copies-same, plan-same}
+use Rattle.rules.proofs.Applied.{apply-holds}
+use Rattle.rules.proofs.Verdicts.{Judged}
+
+-- the two machines' results: equal answers, and states in the relation
+pub record Same (m : Map) (tail : List ℕ) (x : Answer × Bank) (y : Answer × Table) : Type 0 where
+  pub answer : x .0 ≡ y .0
+  pub after : Holds m tail (x .1) (y .1)
+
+module _ (m : Map) (g : GoodMap m) (tail : List ℕ) (b : Bank) (t : Table) (r : Holds m tail b t) where
+  does-select : (s i a : ℕ) → Judged m (select s i a) → Same m tail (bankDoes m (select s i a) b) (tableDoes m (select s i a) t)
+  unfolding bankDoes tableDoes exists misdirected unaccepted
+  does-select s i a j =
+      let (h₁, h₂, h₃) = and₃ (isSet s) (leb 1 i) (leb i 8) (j .there) in
+      let ha : a ≤ m .count = nltb→le _ _ (j .fine) in
+      record {
+        answer = refl;
+        after = select-holds m g tail b t r s i a (staged-set s h₁ (j .may)) (leb→le _ _ h₂) (leb→le _ _ h₃) (omega (arith, g .count));
+      }
+
+  does-write : (s e p i : ℕ) (v : ℤ) → Judged m (write s e p i v) → Same m tail (bankDoes m (write s e p i v) b) (tableDoes m (write s e p i v) t)
+  unfolding bankDoes tableDoes exists misdirected unaccepted
+  does-write s e p i v j =
+      let (h₁, h₂) = and₂ (isSet s) (hasField m e p i) (j .there) in
+      let (h₃, h₄) = not-or (eqb s 2) (not (isRW m e)) (j .may) in
+      let f : Field m s e p i = field-of m s e p i (ltb→lt _ _ h₁) (rw-held m g s e (ltb→lt _ _ (not-not (isRW m e) h₄))) h₂ in
+      record { answer = refl; after = put-holds m g tail b t r s e p i v f (accepts-fits (entry m e) v (not-not (accepts (entry m e) v) (j .fine))) }
+
+  does-read : (s e p i : ℕ) → Judged m (read s e p i) → Same m tail (bankDoes m (read s e p i) b) (tableDoes m (read s e p i) t)
+  unfolding bankDoes tableDoes exists misdirected unaccepted
+  does-read s e p i j =
+      let (h₁, h₂) = and₂ (isSet s) (hasField m e p i) (j .there) in
+      let f : Field m s e p i = field-of m s e p i (ltb→lt _ _ h₁) (read-held m g s e p i h₁ h₂ (j .may)) h₂ in
+      record { answer = ap number (r .fields s e p i f); after = r }
+
+  does-byteWrite : (s k v : ℕ) → Judged m (byteWrite s k v) → Same m tail (bankDoes m (byteWrite s k v) b) (tableDoes m (byteWrite s k v) t)
+  unfolding bankDoes tableDoes exists misdirected unaccepted
+  does-byteWrite s k v j =
+      let (h₁, h₂) = and₂ (isSet s) (ltb k (lengthOf m s)) (j .there) in
+      let hk : k < lengthOf m s = ltb→lt _ _ h₂ in
+      record { answer = refl; after = byte-holds m g tail b t r s k v (ltb→lt _ _ h₁) (omega (arith, g .lengths s)) }
+
+  does-byteRead : (s k : ℕ) → Judged m (byteRead s k) → Same m tail (bankDoes m (byteRead s k) b) (tableDoes m (byteRead s k) t)
+  unfolding bankDoes tableDoes exists misdirected unaccepted
+  does-byteRead s k j =
+      let hs : s < 3 = ltb→lt _ _ (and₂ (isSet s) (ltb k (lengthOf m s)) (j .there) .0) in
+      record {
+        answer = ap (λ n. number (pos n))
+            (field-bits m g s k hs (getD b (setStart s + k) 0)
+            ∙ sym (byte-of-bank m s k hs g b)
+            ∙ byte-ext m s k hs _ _ (λ e p i f _. sym (bits-of m g b f) ∙ ap (toBits (widthOf (entry m e))) (r .fields s e p i f)));
+        after = r;
+      }
+
+  does-publish : (e p i : ℕ) (v : ℤ) → Judged m (publish e p i v) → Same m tail (bankDoes m (publish e p i v) b) (tableDoes m (publish e p i v) t)
+  unfolding bankDoes tableDoes exists misdirected unaccepted
+  does-publish e p i v j =
+      let f : Field m 2 e p i = field-of m 2 e p i (omega arith) (active-held m e p i (j .there)) (j .there) in
+      record { answer = refl; after = put-holds m g tail b t r 2 e p i v f (accepts-fits (entry m e) v (not-not (accepts (entry m e) v) (j .fine))) }
+
+  -- the table's numbers after apply, from the bank's
+  module _ (s lanes : ℕ) (hs : s < 2) where
+    applied-same :
+        (s′ e p i : ℕ)
+        → Field m s′ e p i
+        → cond (eqb s′ 2 && (isRW m e && bankCopies m b s lanes e i)) (numberIn m b s e p i) (t .numbers s′ e p i)
+        ≡ cond (changes m t s lanes s′ e p i) (t .numbers s e p i) (t .numbers s′ e p i)
+    applied-same s′ e p i f = go (either (eqb s′ 2)) (either (isRW m e))
+      where
+        go : T (eqb s′ 2) ⊎ T (not (eqb s′ 2)) → T (isRW m e) ⊎ T (not (isRW m e))
+            → cond (eqb s′ 2 && (isRW m e && bankCopies m b s lanes e i)) (numberIn m b s e p i) (t .numbers s′ e p i)
+            ≡ cond (changes m t s lanes s′ e p i) (t .numbers s e p i) (t .numbers s′ e p i)
+        go (inl q) (inl h) =
+            let held : T (holds m 2 e p i) = rw (eqb→eq s′ 2 q) at (field-holds f) in
+            rw (
+              is-true (holds m 2 e p i) held,
+              copies-same m g tail b t r s lanes hs e i (f .low) (f .top),
+              r .fields s e p i (staged-field m g tail b t r s lanes hs (ltb→lt _ _ h) (f .part) (f .low) (f .top)),
+            )
+        go (inl q) (inr h) = rw (is-false (isRW m e) h, and-no (eqb s′ 2))
+        go (inr q) h = rw (is-false (eqb s′ 2) q)
+
+  does-apply : (s lanes : ℕ) → Judged m (apply s lanes) → Same m tail (bankDoes m (apply s lanes) b) (tableDoes m (apply s lanes) t)
+  unfolding bankDoes tableDoes exists misdirected unaccepted
+  does-apply s lanes j =
+      let hs : s < 2 = staged-set s (j .there) (j .may) in
+      record { answer = refl; after = holds-ext m tail _ _ _ (apply-holds m g tail t b s lanes hs r) (applied-same s lanes hs) refl }
+
+  pub does : (c : Call) → Judged m c → Same m tail (bankDoes m c b) (tableDoes m c t)
+  does (select s i a) j = does-select s i a j
+  does (write s e p i v) j = does-write s e p i v j
+  does (read s e p i) j = does-read s e p i j
+  does (byteWrite s k v) j = does-byteWrite s k v j
+  does (byteRead s k) j = does-byteRead s k j
+  does (publish e p i v) j = does-publish e p i v j
+  does (apply s lanes) j = does-apply s lanes j
+
+  -- 13 and 14
+  pub plans : (c : Call) → Judged m c → firstOf (bankPlan m c b) ≡ firstOf (tablePlan m c t)
+  unfolding bankPlan tablePlan exists misdirected
+  plans (select s i a) j = refl
+  plans (write s e p i v) j = refl
+  plans (read s e p i) j = refl
+  plans (byteWrite s k v) j = refl
+  plans (byteRead s k) j = refl
+  plans (publish e p i v) j = refl
+  plans (apply s lanes) j = plan-same m g tail b t r s lanes (staged-set s (j .there) (j .may))

@@ -1,0 +1,21 @@
+-- The demands of document 01 and where each is proved. Open this file first; the statements are in specs/Demands.antt.
+use Rattle.rules.specs.Demands.{Demand2, Demand3, Demand3-after-fresh, Twelve}
+use Rattle.rules.proofs.PlaceOwner.{both-ways}
+use Rattle.rules.proofs.Lists.{lists-agree}
+use Rattle.rules.proofs.Fresh.{lists-agree-after-fresh}
+use Rattle.rules.proofs.Settings.{settings}
+
+-- the owner found for a bit and the place found for a field agree both ways
+pub demand2 : Demand2
+demand2 = both-ways
+
+-- bank and table, on every list of calls, give equal answers, and the bank ends as the table's numbers with every other bit 0
+pub demand3 : Demand3
+demand3 = lists-agree
+
+pub demand3-after-fresh : Demand3-after-fresh
+demand3-after-fresh = lists-agree-after-fresh
+
+-- P1 to P12
+pub twelve : Twelve
+twelve = settings

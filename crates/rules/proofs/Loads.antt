@@ -1,0 +1,33 @@
+-- The laws of `loadOf` and `stringsOf` that a function's proof cites, one for each way out.
+use mathlib.Core.Path.{_≡_}
+use mathlib.Core.Bool.{true, false}
+use mathlib.Core.List.{List}
+use Prim.Native.Nat.{ℕ, _-_}
+use Rattle.rules.specs.Words.{Refusal, plain, State, ended, stopped, accepted, rejected}
+use Rattle.rules.specs.Descriptor.{maskBytes}
+use Rattle.rules.specs.Load.{start, intoRO, walkOf, sized, stringsOf, loadOf}
+
+module _ (count : ℕ) (first last : List ℕ) where
+  pub load-9 : sized count first last ≡ false → loadOf count first last ≡ rejected (plain 9)
+  unfolding loadOf
+  load-9 h = rw h
+
+  pub load-strings : sized count first last ≡ true → loadOf count first last ≡ stringsOf count first last
+  unfolding loadOf
+  load-strings h = rw h
+
+  pub strings-rw-refused : (r : Refusal) → walkOf false (maskBytes count) first start ≡ stopped r → stringsOf count first last ≡ rejected r
+  unfolding stringsOf
+  strings-rw-refused r h = rw h
+
+  module _ (m : State) (h : walkOf false (maskBytes count) first start ≡ ended m) where
+    pub strings-ro-refused : (r : Refusal) → walkOf true (maskBytes count) last (intoRO m) ≡ stopped r → stringsOf count first last ≡ rejected r
+    unfolding stringsOf
+    strings-ro-refused r k = rw (h, k)
+
+    pub strings-accepted :
+        (e : State)
+        → walkOf true (maskBytes count) last (intoRO m) ≡ ended e
+        → stringsOf count first last ≡ accepted (m .number) (e .number - m .number) (m .sum) (e .sum)
+    unfolding stringsOf
+    strings-accepted e k = rw (h, k)

@@ -1,0 +1,46 @@
+-- An order of checks that passes: each of its checks passes, so the load accepts the strings and the bank has its size.
+use mathlib.Core.Path.{_≡_, refl, _∙_}
+use mathlib.Core.Bool.{true}
+use mathlib.Core.List.{List, _∷_}
+use Prim.Native.Nat.{ℕ, _≤_}
+use lib.Dec.{ltb}
+use native.Mathlib.Omega.{arith}
+use borrow.Author.Tests.{not-false, ltb-false}
+use Rattle.rules.specs.Words.{Loaded, accepted, rejected}
+use Rattle.rules.specs.Load.{sized, stringsOf}
+use Rattle.rules.specs.Refuse.{Verdict, passes, firstOf, check9, check8, refusalOf, check1to7, orderOf, bankOrder}
+use Rattle.rules.specs.Layout.{bankSize}
+use Rattle.rules.specs.Demands.{Accepted}
+use Rattle.rules.proofs.Verdicts.{refuse-if-passes, first-passes}
+use Rattle.rules.proofs.Loads.{load-strings}
+
+module _ (count : ℕ) (first last : List ℕ) where
+  checks-accepted : check9 count first last ≡ passes → check1to7 count first last ≡ passes → Accepted count first last
+  unfolding check9 check1to7
+  checks-accepted h k = go (stringsOf count first last) refl k
+    where
+      big : sized count first last ≡ true
+      big = not-false _ (refuse-if-passes _ _ h)
+
+      go : (x : Loaded) → stringsOf count first last ≡ x → refusalOf x ≡ passes → Accepted count first last
+      go (accepted n m c t) q y = record { rwCount = n; roCount = m; staged = c; active = t; loads = load-strings count first last big ∙ q }
+      go (rejected r) q y = let o : _≡_ {A = ℕ} 0 1 = cc in absurd (omega arith)
+
+  pub order-passes : (rest : List Verdict) → orderOf count first last rest ≡ passes → Accepted count first last × (firstOf rest ≡ passes)
+  unfolding orderOf
+  order-passes rest h =
+      let p = first-passes (check9 count first last) (check1to7 count first last ∷ rest) h in
+      let q = first-passes (check1to7 count first last) rest (p .1) in
+      (checks-accepted (p .0) (q .0), q .1)
+
+  pub bank-order-passes :
+      (size : ℕ) (rest : List Verdict)
+      → bankOrder count first last size rest ≡ passes
+      → Accepted count first last × (bankSize ≤ size) × (firstOf rest ≡ passes)
+  unfolding bankOrder check8
+  bank-order-passes size rest h =
+      let p = first-passes (check9 count first last) (check8 size ∷ check1to7 count first last ∷ rest) h in
+      let q = first-passes (check8 size) (check1to7 count first last ∷ rest) (p .1) in
+      let r = first-passes (check1to7 count first last) rest (q .1) in
+      let small = refuse-if-passes (ltb size bankSize) _ (q .0) in
+      (checks-accepted (p .0) (r .0), omega (arith, ltb-false), r .1)

@@ -1,0 +1,48 @@
+-- The table's "accepted values", a field's bits as a number, and the weight of a 12h field.
+use mathlib.Core.Bool.{Bool, true, false, _&&_, _||_, cond}
+use mathlib.Core.List.{List, [], _∷_}
+use Prim.Native.Nat.{ℕ, zero, suc, _-_, _^_}
+use lib.IntN.{ℤ, pos, negsuc, _*ℤ_}
+use lib.Signed.{leZ}
+use lib.Dec.{ltb}
+use Rattle.rules.specs.Words.{Entry}
+use Rattle.rules.specs.Numbers.{bitOf}
+use Rattle.rules.specs.Parameter.{Extras, none, codes, indexCodes, indexStep, Range, rowOf}
+
+-- the numbers of the table's last column
+unfoldable pub within : List Range → ℤ → Bool
+within [] v = false
+within (r ∷ l) v = (leZ (r .low) v && leZ v (r .high)) || within l v
+
+-- "value v is in it if bit v is 1"; an ID without a code mask has none to ask
+unfoldable pub inCodes : Extras → ℕ → ℤ → Bool
+inCodes none mask v = true
+inCodes codes mask (pos n) = bitOf mask n
+inCodes codes mask (negsuc n) = false
+inCodes indexCodes mask (pos n) = bitOf mask n
+inCodes indexCodes mask (negsuc n) = false
+inCodes indexStep mask v = true
+
+-- "accepted values" of an entry: in the column's numbers and, for an ID with a code mask, "if in the mask"
+unfoldable pub accepts : Entry → ℤ → Bool
+accepts e v = within (rowOf (e .id) .values) v && inCodes (rowOf (e .id) .extras) (e .codes) v
+
+-- the w bits that stand for a number, "as an unsigned pattern"
+unfoldable pub toBits : ℕ → ℤ → ℕ
+toBits w (pos n) = n
+toBits w (negsuc n) = 2 ^ w - suc n
+
+-- the number that w bits stand for: two's complement if signed, "any other an unsigned one"
+unfoldable pub fromBits : Bool → ℕ → ℕ → ℤ
+fromBits false w n = pos n
+fromBits true w n = cond (ltb n (2 ^ (w - 1))) (pos n) (negsuc (2 ^ w - suc n))
+
+-- "times 10, 20, 25 or 40 for step 0 to 3, in thousandths"
+abbrev pub thousandths : ℕ → ℕ
+thousandths zero = 10
+thousandths (suc zero) = 20
+thousandths (suc (suc zero)) = 25
+thousandths (suc (suc (suc n))) = 40
+
+unfoldable pub weightOf : ℕ → ℤ → ℤ
+weightOf step v = v *ℤ pos (thousandths step)

@@ -1,0 +1,216 @@
+-- The statements: the three demands and the twelve settings. proofs/Demands.antt proves each.
+use mathlib.Core.Path.{_≡_}
+use mathlib.Core.Logic.{_⊎_, _↔_}
+use mathlib.Core.Bool.{Bool, true, false, _||_}
+use mathlib.Core.List.{List, [], _∷_, _++_}
+use Prim.Native.Nat.{ℕ, _+_, _-_, _≤_, _<_}
+use lib.IntN.{pos, negsuc}
+use lib.ListN.{length, getD, take, drop}
+use lib.Dec.{T, eqb}
+use Rattle.rules.specs.Words.{Refusal, plain, atEntry, Entry, decoded, failed, State, accepted, rejected, Call, read, Answer, refused, placedAt, notPlaced, ownedBy, gap, notOwned}
+use Rattle.rules.specs.Numbers.{cut}
+use Rattle.rules.specs.Descriptor.{maskBytes, hasApp, entryAt, decodeAt}
+use Rattle.rules.specs.Load.{Map, loadOf, rwEntries, roEntries, total, mapOf}
+use Rattle.rules.specs.Place.{nothing, entry, widthOf, lengthOf, holds, fieldByte, fieldBit, covers}
+use Rattle.rules.specs.Accept.{accepts, toBits, fromBits, weightOf}
+use Rattle.rules.specs.Layout.{bankSize, setStart}
+use Rattle.rules.specs.Bank.{Bank, numberIn, appSelIn, bankStep, freshStep, runBank}
+use Rattle.rules.specs.Table.{Table, freshTable, runTable}
+use Rattle.rules.specs.Beside.{placeOf, ownerCall, entryAnswer, entryBytes, weightCall}
+use Rattle.rules.specs.Conditions.{Rule, gives, First, entryRules, Lane, planRules, callRules, stringRules, bankRules}
+
+-- DEMAND 1: "A refused call gives the number that 01's order picks, changes no byte, and does its own checking."
+
+-- a bank after a call: as it was in its length and past its size; as it was altogether if the call is refused
+pub record Keeps (b after : Bank) (isRefused : Type 0) : Type 0 where
+  pub size : length after ≡ length b
+  pub beyond : drop bankSize after ≡ drop bankSize b
+  pub whole : isRefused → after ≡ b
+
+-- any strings, any count, any bank
+pub record Refusals (count : ℕ) (rw ro : List ℕ) (b : Bank) : Type 0 where
+  -- one entry, in a string of any content, at any state: the first check that it fails, in the order 1 to 7
+  pub one-entry : (inRO : Bool) (a : ℕ) (s : List ℕ) (st : State) (n : ℕ)
+      → (decodeAt inRO a s st ≡ failed n) ↔ First (entryRules inRO a (length s - st .at) st (entryAt a s st)) n
+  -- the calls of demand 3, fresh, and the calls beside: a refusal is answered exactly if it is the first in 01's order
+  pub call : (c : Call) (x : Refusal)
+      → (bankStep count rw ro c b .0 ≡ refused x) ↔ First (bankRules count rw ro b (callRules (mapOf count rw ro) c ++ planRules (mapOf count rw ro) c b)) x
+  pub fresh : (x : Refusal) → (freshStep count rw ro b .0 ≡ rejected x) ↔ First (bankRules count rw ro b []) x
+  pub load : (x : Refusal) → (loadOf count rw ro ≡ rejected x) ↔ First (stringRules count rw ro []) x
+  pub place : (s e p i : ℕ) (x : Refusal)
+      → (placeOf count rw ro s e p i ≡ notPlaced x) ↔ First (stringRules count rw ro (callRules (mapOf count rw ro) (read s e p i))) x
+  pub owner : (s k q : ℕ) (x : Refusal)
+      → (ownerCall count rw ro s k q ≡ notOwned x)
+      ↔ First (stringRules count rw ro (gives (plain 10) (¬ ((s < 3) × (k < lengthOf (mapOf count rw ro) s) × (q < 8))) ∷ [])) x
+  pub own-entry : (e : ℕ) (x : Refusal)
+      → (entryAnswer count rw ro e ≡ refused x)
+      ↔ First (stringRules count rw ro (gives (plain 10) (¬ (e < length (mapOf count rw ro .entries))) ∷ [])) x
+  pub weight : (e i : ℕ) (x : Refusal)
+      → (weightCall count rw ro b e i ≡ refused x)
+      ↔ First
+      (bankRules count rw ro b
+      (gives (plain 10) (¬ ((e < length (mapOf count rw ro .entries)) × (entry (mapOf count rw ro) e .id ≡ 0x12) × Lane i)) ∷ []))
+      x
+  -- "every lent byte keeps its content"; "Longer buffers are untouched beyond."
+  pub call-keeps : (c : Call) → Keeps b (bankStep count rw ro c b .1) ((x : Refusal) × (bankStep count rw ro c b .0 ≡ refused x))
+  pub fresh-keeps : Keeps b (freshStep count rw ro b .1) ((x : Refusal) × (freshStep count rw ro b .0 ≡ rejected x))
+
+abbrev pub Demand1 : Type 0
+Demand1 = (count : ℕ) (rw ro : List ℕ) (b : Bank) → Refusals count rw ro b
+
+-- DEMAND 2: "A bit belongs to a parameter, part and lane exactly when that field's placing covers it; owner and place agree both ways."
+
+-- descriptors and count that the load accepts
+pub record Accepted (count : ℕ) (rw ro : List ℕ) : Type 0 where
+  pub rwCount : ℕ
+  pub roCount : ℕ
+  pub staged : ℕ
+  pub active : ℕ
+  pub loads : loadOf count rw ro ≡ accepted rwCount roCount staged active
+
+-- the place that the place call gives a field covers bit q of byte k
+pub record PlaceCovers (count : ℕ) (rw ro : List ℕ) (s e p i k q : ℕ) : Type 0 where
+  pub bit : ℕ
+  pub at : placeOf count rw ro s e p i ≡ placedAt k bit
+  pub low : bit ≤ q
+  pub top : q < bit + widthOf (entry (mapOf count rw ro) e)
+
+-- the sum of the Lengths
+abbrev pub lengths : List Entry → ℕ
+lengths [] = 0
+lengths (e ∷ l) = e .length + lengths l
+
+-- entries that fill a string from its first byte to its last, each directly after the one before, and say what its bytes say
+pub record Fills (a : ℕ) (s : List ℕ) (l : List Entry) : Type 0 where
+  pub ends : lengths l ≡ length s
+  pub starts : (n : ℕ) → n < length l → getD l n nothing .start ≡ lengths (take n l)
+  pub says : (n : ℕ) → n < length l
+      → getD l n nothing ≡ entryAt a s (record { at = getD l n nothing .start; number = n; sum = getD l n nothing .offset; media = false })
+
+pub record OwnerAndPlace (count : ℕ) (rw ro : List ℕ) : Type 0 where
+  -- a bit belongs to an entry, part and lane exactly when the placing of that lane's field covers the bit
+  pub owner-is : (s k q e p i : ℕ) → (ownerCall count rw ro s k q ≡ ownedBy e p i) ↔ PlaceCovers count rw ro s e p i k q
+  -- a bit of a set is a gap exactly when no field's placing covers it
+  pub owner-gap : (s k q : ℕ)
+      → s < 3
+      → k < lengthOf (mapOf count rw ro) s
+      → q < 8
+      → (ownerCall count rw ro s k q ≡ gap) ↔ ((e p i : ℕ) → ¬ (PlaceCovers count rw ro s e p i k q))
+  -- a field that is placed owns its place
+  pub place-owned : (s e p i k q : ℕ) → placeOf count rw ro s e p i ≡ placedAt k q → ownerCall count rw ro s k q ≡ ownedBy e p i
+  -- every field that a set holds is placed, within its entry and within one byte
+  pub placed : (s e p i : ℕ)
+      → T (holds (mapOf count rw ro) s e p i)
+      → placeOf count rw ro s e p i ≡ placedAt (fieldByte (entry (mapOf count rw ro) e) p i) (fieldBit (entry (mapOf count rw ro) e) i)
+  pub inside : (s e p i k q : ℕ)
+      → PlaceCovers count rw ro s e p i k q
+      → (entry (mapOf count rw ro) e .offset ≤ k)
+      × (k < entry (mapOf count rw ro) e .offset + entry (mapOf count rw ro) e .memory)
+      × (k < lengthOf (mapOf count rw ro) s)
+      × (q < 8)
+  -- no two fields of a set share a bit
+  pub disjoint : (s e p i e′ p′ i′ k q : ℕ)
+      → PlaceCovers count rw ro s e p i k q
+      → PlaceCovers count rw ro s e′ p′ i′ k q
+      → (e ≡ e′) × (p ≡ p′) × (i ≡ i′)
+  -- the entries are those of the strings, every byte of them read
+  pub rw-fills : Fills (maskBytes count) rw (rwEntries count rw)
+  pub ro-fills : Fills (maskBytes count) ro (roEntries count rw ro)
+  -- "both entry counts and both lengths": of the RW and the RO entries, the RW sum and the sum of all
+  pub loads :
+      loadOf count rw ro
+      ≡ accepted (length (rwEntries count rw)) (length (roEntries count rw ro)) (total (rwEntries count rw)) (total (rwEntries count rw ++ roEntries count rw ro))
+  -- "An entry's offset is the sum of the MemoryLengths before it."
+  pub offsets : (e : ℕ) → e < length (mapOf count rw ro .entries) → entry (mapOf count rw ro) e .offset ≡ total (take e (mapOf count rw ro .entries))
+
+abbrev pub Demand2 : Type 0
+Demand2 = (count : ℕ) (rw ro : List ℕ) → Accepted count rw ro → OwnerAndPlace count rw ro
+
+-- DEMAND 3: "The packed bank and the plain table of 01, started fresh, give equal lists of answers .. and end with equal numbers,
+-- every other bit of the three sets 0."
+
+-- bit q of byte k of a set
+abbrev pub bitIn : Bank → ℕ → ℕ → ℕ → ℕ
+bitIn b s k q = cut (getD b (setStart s + k) 0) q 1
+
+-- the bank shows the table: every field and every AppSel, and nothing else in the three sets
+pub record Shows (m : Map) (b : Bank) (t : Table) : Type 0 where
+  pub fields : (s e p i : ℕ) → T (holds m s e p i) → numberIn m b s e p i ≡ t .numbers s e p i
+  pub apps : (s i : ℕ) → s < 2 → 1 ≤ i → i ≤ 8 → appSelIn b s i ≡ t .apps s i
+  pub others : (s k q : ℕ)
+      → s < 3
+      → k < 256
+      → q < 8
+      → ((e p i : ℕ) → T (holds m s e p i) → ¬ (T (covers (entry m e) p i k q)))
+      → bitIn b s k q ≡ 0
+
+-- the two machines on a list of calls, each from what its fresh left
+abbrev pub bankRun : ℕ → List ℕ → List ℕ → Bank → List Call → List Answer × Bank
+bankRun count rw ro bank calls = runBank count rw ro calls (freshStep count rw ro bank .1)
+
+abbrev pub tableRun : ℕ → List ℕ → List ℕ → List Call → List Answer × Table
+tableRun count rw ro calls = runTable count rw ro calls freshTable
+
+-- equal lists of answers, a bank that shows the table, and all bytes past the bank's size as they were
+pub record ListAgrees (count : ℕ) (rw ro : List ℕ) (bank : Bank) (calls : List Call) : Type 0 where
+  pub answers : bankRun count rw ro bank calls .0 ≡ tableRun count rw ro calls .0
+  pub shows : Shows (mapOf count rw ro) (bankRun count rw ro bank calls .1) (tableRun count rw ro calls .1)
+  pub size : length (bankRun count rw ro bank calls .1) ≡ length bank
+  pub beyond : drop bankSize (bankRun count rw ro bank calls .1) ≡ drop bankSize bank
+
+-- descriptors and count that the load accepts, a bank of at least 784 bytes of any content, every list of the seven calls
+abbrev pub Demand3 : Type 0
+Demand3 =
+    (count : ℕ) (rw ro bank : List ℕ)
+    → Accepted count rw ro
+    → bankSize ≤ length bank
+    → (calls : List Call)
+    → ListAgrees count rw ro bank calls
+
+-- a fresh that is accepted
+pub record FreshAccepted (count : ℕ) (rw ro : List ℕ) (bank : Bank) : Type 0 where
+  pub rwCount : ℕ
+  pub roCount : ℕ
+  pub staged : ℕ
+  pub active : ℕ
+  pub fresh : freshStep count rw ro bank .0 ≡ accepted rwCount roCount staged active
+
+-- "Before a list of demand 3 stands an accepted fresh": the same, with that as the only premise
+abbrev pub Demand3-after-fresh : Type 0
+Demand3-after-fresh =
+    (count : ℕ) (rw ro bank : List ℕ) → FreshAccepted count rw ro bank → (calls : List Call) → ListAgrees count rw ro bank calls
+
+-- the twelve settings, each of any entry that has the ID, offset or code mask named
+pub record Twelve : Type 0 where
+  -- mask 0Bh, count 4: AppSel 1, 2, 4
+  pub P1 : (a : ℕ) → hasApp 4 0x0B a ≡ (eqb a 1 || (eqb a 2 || eqb a 4))
+  -- 03h at offset 1, lane 5: byte 2, bit 0
+  pub P2 : (e : Entry) → e .id ≡ 0x03 → e .offset ≡ 1 → (fieldByte e 0 5 ≡ 2) × (fieldBit e 5 ≡ 0)
+  -- 04h at 3, lane 2: byte 3, bit 4
+  pub P3 : (e : Entry) → e .id ≡ 0x04 → e .offset ≡ 3 → (fieldByte e 0 2 ≡ 3) × (fieldBit e 2 ≡ 4)
+  -- 04h at 3, lane 7: byte 6, bit 0
+  pub P4 : (e : Entry) → e .id ≡ 0x04 → e .offset ≡ 3 → (fieldByte e 0 7 ≡ 6) × (fieldBit e 7 ≡ 0)
+  -- 07h at 9, part 1, lane 1: byte 13, bit 0
+  pub P5 : (e : Entry) → e .id ≡ 0x07 → e .offset ≡ 9 → (fieldByte e 1 1 ≡ 13) × (fieldBit e 1 ≡ 0)
+  -- −14 is stored F2h and at step 0 weighs −140
+  pub P6 : (toBits 8 (negsuc 13) ≡ 0xF2) × (fromBits true 8 0xF2 ≡ negsuc 13) × (weightOf 0 (negsuc 13) ≡ negsuc 139)
+  -- −128 is 80h
+  pub P7 : (toBits 8 (negsuc 127) ≡ 0x80) × (fromBits true 8 0x80 ≡ negsuc 127)
+  -- Length 0, two bytes left: refusal 2, whatever the ID
+  pub P8 : (id : ℕ) → loadOf 4 (id ∷ 0 ∷ []) [] ≡ rejected (atEntry 2 0)
+  -- 04h with MemoryLength 3: refusal 4; with 5: accepted
+  pub P9 :
+      (loadOf 4 (0x04 ∷ 7 ∷ 0x0F ∷ 3 ∷ 0 ∷ 0xFF ∷ 0xFF ∷ []) [] ≡ rejected (atEntry 4 0))
+      × (loadOf 4 (0x04 ∷ 7 ∷ 0x0F ∷ 5 ∷ 0 ∷ 0xFF ∷ 0xFF ∷ []) [] ≡ accepted 1 0 5 5)
+  -- 04h, mask 1FFFh: 12 accepted, 13 not
+  pub P10 : (e : Entry) → e .id ≡ 0x04 → e .codes ≡ 0x1FFF → (accepts e (pos 12) ≡ true) × (accepts e (pos 13) ≡ false)
+  -- 08h, mask FFFFh: 3 and 15 accepted, 4 not
+  pub P11 :
+      (e : Entry)
+      → e .id ≡ 0x08
+      → e .codes ≡ 0xFFFF
+      → (accepts e (pos 3) ≡ true) × (accepts e (pos 15) ≡ true) × (accepts e (pos 4) ≡ false)
+  -- two 00h entries reserving 255 and 1: accepted; 255 and 2: refusal 7
+  pub P12 :
+      (loadOf 4 (0 ∷ 4 ∷ 0 ∷ 255 ∷ 0 ∷ 4 ∷ 0 ∷ 1 ∷ []) [] ≡ accepted 2 0 256 256)
+      × (loadOf 4 (0 ∷ 4 ∷ 0 ∷ 255 ∷ 0 ∷ 4 ∷ 0 ∷ 2 ∷ []) [] ≡ rejected (atEntry 7 1))

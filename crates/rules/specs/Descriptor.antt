@@ -1,0 +1,102 @@
+-- "What a module advertises": the bytes of one entry; and "Refusals": the checks 1 to 7 of one entry, in their order.
+use mathlib.Core.Bool.{Bool, true, false, _&&_, _||_, not, cond}
+use mathlib.Core.List.{List}
+use Prim.Native.Nat.{ℕ, zero, suc, _+_, _-_, _*_, _%_}
+use lib.ListN.{length, getD}
+use lib.Dec.{ltb, leb, eqb}
+use Rattle.rules.specs.Words.{Entry, Decoded, decoded, failed, State}
+use Rattle.rules.specs.Numbers.{bitOf}
+use Rattle.rules.specs.Parameter.{Side, RW, RO, both, Extras, none, codes, indexCodes, indexStep, rowOf}
+
+-- "A, the bytes of an application mask, is 1 for a count of 1 to 8 and 2 above."
+unfoldable pub maskBytes : ℕ → ℕ
+maskBytes count = cond (leb count 8) 1 2
+
+-- an AppSel that names an application
+abbrev pub isApp : ℕ → ℕ → Bool
+isApp count a = leb 1 a && leb a count
+
+-- "Bit n of the mask means AppSel n + 1; bits above the count are ignored"
+abbrev pub hasApp : ℕ → ℕ → ℕ → Bool
+hasApp count mask a = isApp count a && bitOf mask (a - 1)
+
+abbrev pub byteAt : List ℕ → ℕ → ℕ
+byteAt s i = getD s i 0
+
+-- n bytes from a place on as one number, "high byte first"
+unfoldable pub highFirst : List ℕ → ℕ → ℕ → ℕ
+highFirst s at zero = 0
+highFirst s at (suc n) = highFirst s at n * 256 + byteAt s (at + n)
+
+-- "then the extras named in the table", from a place on: the code mask ("2 bytes, high byte first"), after the index in 07h; the step after the index in 12h
+unfoldable pub codesOf : Extras → List ℕ → ℕ → ℕ
+codesOf none s at = 0
+codesOf codes s at = highFirst s at 2
+codesOf indexCodes s at = highFirst s (at + 1) 2
+codesOf indexStep s at = 0
+
+unfoldable pub stepOf : Extras → List ℕ → ℕ → ℕ
+stepOf none s at = 0
+stepOf codes s at = 0
+stepOf indexCodes s at = 0
+stepOf indexStep s at = byteAt s (at + 1)
+
+-- "for the IDs of the table, PropertyFlags, 1 byte": the IDs with fields; the others' "flags are not read". "Bit 0 set means media side"
+abbrev pub mediaSide : ℕ → ℕ → Bool
+mediaSide parts flags = ltb 0 parts && eqb (flags % 2) 1
+
+-- "An entry is: ID, 1 byte; Length, 1 byte, counting the whole entry; application mask, A bytes, high byte first; MemoryLength,
+-- 1 byte; for the IDs of the table, PropertyFlags, 1 byte; then the extras named in the table": the one at a state's place
+abbrev pub entryAt : ℕ → List ℕ → State → Entry
+entryAt a s st =
+    record {
+      id = byteAt s (st .at);
+      start = st .at;
+      length = byteAt s (st .at + 1);
+      mask = highFirst s (st .at + 2) a;
+      memory = byteAt s (st .at + 2 + a);
+      media = mediaSide (rowOf (byteAt s (st .at)) .parts) (byteAt s (st .at + 3 + a));
+      codes = codesOf (rowOf (byteAt s (st .at)) .extras) s (st .at + 4 + a);
+      step = stepOf (rowOf (byteAt s (st .at)) .extras) s (st .at + 4 + a);
+      offset = st .sum;
+    }
+
+-- whether an ID of a side may stand in a string: the test is true in the RO string
+abbrev pub mayStand : Side → Bool → Bool
+mayStand RW ro = not ro
+mayStand RO ro = ro
+mayStand both ro = true
+
+-- 1: "one byte left, or Length exceeds the bytes left, both counted from the entry's ID on"
+abbrev pub overruns : ℕ → Entry → Bool
+overruns left e = eqb left 1 || ltb left (e .length)
+
+-- 6: "an ID of 02h to 08h, host side, after a media-side table entry of the RW string" (in the RO string such an ID fails 3)
+abbrev pub lateHost : Entry → Bool → Bool
+lateHost e passed = leb 2 (e .id) && (leb (e .id) 8 && (not (e .media) && passed))
+
+-- a check: its number if the entry fails it, else what follows
+unfoldable pub refuse : Bool → ℕ → Decoded → Decoded
+refuse true n d = failed n
+refuse false n d = d
+
+-- "Within an entry, in this order": 1, and 2, "Length below the least"; `left` is the number of bytes left
+unfoldable pub lengthChecks : ℕ → ℕ → Entry → Decoded → Decoded
+lengthChecks a left e rest =
+    refuse (overruns left e) 1
+    (refuse (ltb (e .length) (rowOf (e .id) .least + a)) 2
+    rest)
+
+-- 3: "ID in the wrong string"; 4: "MemoryLength below the bytes needed"; 5: "step above 3"; 6; 7: "the sum of MemoryLengths passes 256"
+unfoldable pub contentChecks : Bool → State → Entry → Decoded
+contentChecks ro st e =
+    refuse (not (mayStand (rowOf (e .id) .side) ro)) 3
+    (refuse (ltb (e .memory) (rowOf (e .id) .needed)) 4
+    (refuse (ltb 3 (e .step)) 5
+    (refuse (lateHost e (st .media)) 6
+    (refuse (ltb 256 (st .sum + e .memory)) 7
+    (decoded e)))))
+
+-- one entry: what stands at a state's place of a string with masks of a bytes
+unfoldable pub decodeAt : Bool → ℕ → List ℕ → State → Decoded
+decodeAt ro a s st = lengthChecks a (length s - st .at) (entryAt a s st) (contentChecks ro st (entryAt a s st))

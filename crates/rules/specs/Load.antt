@@ -1,0 +1,106 @@
+-- The load, "the check of both strings": RW entries first, RO after, up to the first entry that fails any check.
+use mathlib.Core.Bool.{Bool, true, false, _&&_, _||_, cond}
+use mathlib.Core.List.{List, [], _∷_, _++_}
+use Prim.Native.Nat.{ℕ, zero, suc, _+_, _-_}
+use lib.ListN.{length}
+use lib.Dec.{ltb, leb}
+use Rattle.rules.specs.Words.{plain, atEntry, Entry, Decoded, decoded, failed, State, Walked, ended, stopped, Loaded, accepted, rejected}
+use Rattle.rules.specs.Descriptor.{maskBytes, decodeAt}
+
+abbrev pub start : State
+start = record { at = 0; number = 0; sum = 0; media = false }
+
+-- past an entry: "The next entry begins directly after the last byte."
+abbrev pub next : State → Entry → State
+next st e = record { at = st .at + e .length; number = st .number + 1; sum = st .sum + e .memory; media = st .media || e .media }
+
+-- at the beginning of the RO string, entry numbers and sum going on
+abbrev pub intoRO : State → State
+intoRO st = record { at = 0; number = st .number; sum = st .sum; media = st .media }
+
+-- one step of a walk: what is made of a decode, given what the walk makes of each later state
+abbrev pub Step : Type 0 → Type 0
+Step A = Decoded → State → (State → A) → A
+
+-- every walk of a string is this fold; an entry takes more than one byte, so the string's length bounds the steps
+unfoldable pub foldBy : {A : Type 0} → Step A → (State → A) → Bool → ℕ → ℕ → List ℕ → State → A
+foldBy step end ro a zero s st = end st
+foldBy {A} step end ro a (suc fuel) s st =
+    let more : A = step (decodeAt ro a s st) st (foldBy step end ro a fuel s) in
+    cond (ltb (st .at) (length s)) more (end st)
+
+unfoldable pub foldOf : {A : Type 0} → Step A → (State → A) → Bool → ℕ → List ℕ → State → A
+foldOf step end ro a s st = foldBy step end ro a (length s) s st
+
+-- "The first entry that fails any check ends the load; its entry number is answered too."
+abbrev pub onward : Step Walked
+onward (decoded e) st k = k (next st e)
+onward (failed n) st k = stopped (atEntry n (st .number))
+
+unfoldable pub walkOf : Bool → ℕ → List ℕ → State → Walked
+walkOf ro a s st = foldOf onward ended ro a s st
+
+-- the entries of a string, each with its offset
+abbrev pub gather : Step (List Entry)
+gather (decoded e) st k = e ∷ k (next st e)
+gather (failed n) st k = []
+
+unfoldable pub entriesFrom : Bool → ℕ → List ℕ → State → List Entry
+entriesFrom ro a s st = foldOf gather (λ _. []) ro a s st
+
+-- 9: "count not 1 to 15, or a string over 120"
+abbrev pub sized : ℕ → List ℕ → List ℕ → Bool
+sized count rw ro = leb 1 count && (leb count 15 && (leb (length rw) 120 && leb (length ro) 120))
+
+abbrev pub after : Walked → (State → Loaded) → Loaded
+after (ended st) k = k st
+after (stopped r) k = rejected r
+
+-- 1 to 7 over both strings
+unfoldable pub stringsOf : ℕ → List ℕ → List ℕ → Loaded
+stringsOf count rw ro =
+    after (walkOf false (maskBytes count) rw start) λ m.
+    after (walkOf true (maskBytes count) ro (intoRO m)) λ e.
+    accepted (m .number) (e .number - m .number) (m .sum) (e .sum)
+
+-- the whole load: 9, then 1 to 7; answers both entry counts, staged and active length
+unfoldable pub loadOf : ℕ → List ℕ → List ℕ → Loaded
+loadOf count rw ro = cond (sized count rw ro) (stringsOf count rw ro) (rejected (plain 9))
+
+-- "Entries are numbered from 0, RW first, RO after."
+unfoldable pub rwEntries : ℕ → List ℕ → List Entry
+rwEntries count rw = entriesFrom false (maskBytes count) rw start
+
+abbrev pub onEnd : Walked → (State → List Entry) → List Entry
+onEnd (ended st) k = k st
+onEnd (stopped r) k = []
+
+unfoldable pub roEntries : ℕ → List ℕ → List ℕ → List Entry
+roEntries count rw ro = onEnd (walkOf false (maskBytes count) rw start) λ st. entriesFrom true (maskBytes count) ro (intoRO st)
+
+unfoldable pub entriesOf : ℕ → List ℕ → List ℕ → List Entry
+entriesOf count rw ro = rwEntries count rw ++ roEntries count rw ro
+
+-- the sum of the MemoryLengths
+unfoldable pub total : List Entry → ℕ
+total [] = 0
+total (e ∷ l) = e .memory + total l
+
+-- what the calls use of the strings: the entries, how many of them are RW, and the lengths
+pub record Map : Type 0 where
+  pub count : ℕ
+  pub entries : List Entry
+  pub rwCount : ℕ
+  pub staged : ℕ
+  pub active : ℕ
+
+-- "The staged length is the RW sum, the active length the sum of all."
+unfoldable pub mapOf : ℕ → List ℕ → List ℕ → Map
+mapOf count rw ro =
+    record {
+      count = count;
+      entries = entriesOf count rw ro;
+      rwCount = length (rwEntries count rw);
+      staged = total (rwEntries count rw);
+      active = total (entriesOf count rw ro);
+    }

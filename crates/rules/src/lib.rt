@@ -1,0 +1,127 @@
+// The types that every call speaks in. The rules are the definitions of specs/, the theorems about them are in proofs/.
+
+// A refusal: document 01's number alone (8 to 12), with the entry that it names (1 to 7), or with the lane (13, 14).
+pub enum Refusal {
+    Plain(usize),
+    AtEntry(usize, usize),
+    AtLane(usize, usize),
+}
+
+// An entry of a descriptor string, decoded: where it starts in its string, what its bytes say, and its offset in a set.
+// `media` is PropertyFlags bit 0 of an ID of the table; `codes` and `step` are 0 where the ID has no such extra.
+pub struct Entry {
+    pub id: usize,
+    pub start: usize,
+    pub length: usize,
+    pub mask: usize,
+    pub memory: usize,
+    pub media: bool,
+    pub codes: usize,
+    pub step: usize,
+    pub offset: usize,
+}
+
+// One entry's decode: the entry, or the number of the first check that it fails.
+pub enum Decoded {
+    Entry(Entry),
+    Refused(usize),
+}
+
+// Where a walk stands: the place in the string, the number of the next entry, the sum of the MemoryLengths before it, and
+// whether a media-side table entry has been passed.
+pub struct State {
+    pub at: usize,
+    pub number: usize,
+    pub sum: usize,
+    pub media: bool,
+}
+
+// A walk of one string: the state at its end, or the first refusal.
+pub enum Walked {
+    Ended(State),
+    Refused(Refusal),
+}
+
+// The load of both strings, and fresh: both entry counts, staged and active length.
+pub enum Loaded {
+    Accepted {
+        rw_count: usize,
+        ro_count: usize,
+        staged_length: usize,
+        active_length: usize,
+    },
+    Refused(Refusal),
+}
+
+// The seven calls of demand 3, with any numbers.
+pub enum Call {
+    Select {
+        set: usize,
+        lane: usize,
+        app: usize,
+    },
+    Write {
+        set: usize,
+        entry: usize,
+        part: usize,
+        lane: usize,
+        value: i64,
+    },
+    Read {
+        set: usize,
+        entry: usize,
+        part: usize,
+        lane: usize,
+    },
+    ByteWrite {
+        set: usize,
+        offset: usize,
+        byte: u8,
+    },
+    ByteRead {
+        set: usize,
+        offset: usize,
+    },
+    Publish {
+        entry: usize,
+        part: usize,
+        lane: usize,
+        value: i64,
+    },
+    Apply {
+        set: usize,
+        lanes: u8,
+    },
+}
+
+// The answer of these calls, of weight, and of the call beside the entry call: "An accepted call without another answer
+// says yes."
+pub enum Answer {
+    Yes,
+    Number(i64),
+    Refused(Refusal),
+}
+
+// Where a field lies: its byte in the set and its lowest bit.
+pub enum Placed {
+    At { byte: usize, bit: usize },
+    Refused(Refusal),
+}
+
+// Whose a bit is.
+pub enum Owned {
+    Field {
+        entry: usize,
+        part: usize,
+        lane: usize,
+    },
+    Gap,
+    Refused(Refusal),
+}
+
+// One step of the reader: the next entry's start and length, the end, or a refusal.
+pub enum Taken {
+    Part { start: usize, length: usize },
+    End,
+    Refused(Refusal),
+}
