@@ -1,4 +1,4 @@
--- The entry call's part: an entry's own bytes are as many as its Length says, and at least 4.
+-- The entry call's part is the entry's own bytes, as many as its Length says, and at least 4.
 -- So an empty part is handed back exactly when the call is refused.
 use mathlib.Core.Path.{_≡_, refl, ap, _∙_}
 use mathlib.Core.Bool.{Bool, true, false, not, cond}
@@ -7,26 +7,29 @@ use mathlib.Core.Logic.{_↔_}
 use Prim.Native.Nat.{ℕ, _+_, _-_, _≤_, _<_}
 use native.Mathlib.Omega.{arith}
 use lib.ListN.{length, getD, length-append, length-take, length-drop, List·getD-append}
-use lib.Seq.{getD-append-add}
+use lib.Seq.{getD-append-add, getD-take, getD-drop}
 use lib.Dec.{T, ltb, leb, ltb→lt, nltb→le}
-use borrow.Author.Tests.{ltb-true, not-false}
+use borrow.Author.Tests.{ltb-true, lt-ltb, not-false}
 use Rattle.rules.specs.Words.{Refusal, Entry, saysYes, refused}
-use Rattle.rules.specs.Descriptor.{maskBytes}
+use Rattle.rules.specs.Descriptor.{maskBytes, byteAt}
 use Rattle.rules.specs.Load.{rwEntries, roEntries, entriesOf, mapOf}
 use Rattle.rules.specs.Place.{nothing, entry, isRW}
 use Rattle.rules.specs.Refuse.{Verdict, passes, refuses}
 use Rattle.rules.specs.Beside.{entryVerdict, answered, entryAnswer, ownBytes, partOr, entryBytes}
-use Rattle.rules.specs.Demands.{Accepted}
+use Rattle.rules.specs.Demands.{Accepted, OwnBytes}
 use Rattle.rules.proofs.Tests.{by-test}
 use Rattle.rules.proofs.Checks.{decode-passed}
+use Rattle.rules.proofs.Walks.{check9-passes, check1to7-passes}
 use Rattle.rules.proofs.Fills.{Filled, filled-nth, stands-start, rw-filled, ro-filled}
 use Rattle.rules.proofs.Orders.{order-passes}
-use Rattle.rules.proofs.Verdicts.{first-passes, refuse-if-passes}
+use Rattle.rules.proofs.Verdicts.{first-passes, refuse-if-passes, order-open}
 
 -- the bytes of a string that are an entry's own
 pub record OwnPart (s : List ℕ) (e : Entry) : Type 0 where
   pub size : length (ownBytes s e) ≡ e .length
   pub least : 4 ≤ e .length
+  pub inside : e .start + e .length ≤ length s
+  pub says : e .length ≡ byteAt s (e .start + 1)
 
 mask-least : (count : ℕ) → 1 ≤ maskBytes count
 unfolding maskBytes
@@ -42,7 +45,12 @@ filled-part ro count s l n g h =
     let e : Entry = getD l n nothing in
     let p = decode-passed ro (maskBytes count) s (w .st) e (w .passes) in
     let b = stands-start ro (maskBytes count) s w in
-    record { size = simp (length-take, length-drop) (omega arith); least = omega (arith, mask-least count) }
+    record {
+      size = simp (length-take, length-drop) (omega arith);
+      least = omega (arith, mask-least count);
+      inside = omega arith;
+      says = rw (p .entry) refl;
+    }
 
 module _ (count : ℕ) (first last : List ℕ) (ok : Accepted count first last) (e : ℕ) (h : e < length (mapOf count first last .entries)) where
   pub entry-part : OwnPart (cond (isRW (mapOf count first last) e) first last) (entry (mapOf count first last) e)
@@ -69,9 +77,25 @@ module _ (count : ℕ) (first last : List ℕ) (ok : Accepted count first last) 
           (ap (λ i. getD (r ++ o) i nothing) q ∙ getD-append-add r o (e - length r) nothing)
           (filled-part true count last o (e - length r) (ro-filled count first last ok) (omega (arith, length-append r o)))
 
+  verdict-accepted : entryVerdict count first last e ≡ passes
+  unfolding entryVerdict
+  verdict-accepted =
+      rw (
+        order-open count first last (check9-passes count first last ok) (check1to7-passes count first last ok),
+        lt-ltb e (length (mapOf count first last .entries)) h,
+      )
+
+  bytes-own :
+      entryBytes count first last e ≡ ownBytes (cond (isRW (mapOf count first last) e) first last) (entry (mapOf count first last) e)
+  unfolding entryBytes
+  bytes-own = rw verdict-accepted
+
+  pub entry-own : OwnBytes count first last e
+  entry-own = record { size = rw bytes-own (entry-part .size); bytes = λ k l. rw (bytes-own, getD-take, getD-drop) }
+
 module _ (count : ℕ) (first last : List ℕ) (e : ℕ) where
   -- a call that is not refused: the load accepts, and the entry is one of the map's
-  verdict-passes : entryVerdict count first last e ≡ passes → Accepted count first last × (e < length (mapOf count first last .entries))
+  pub verdict-passes : entryVerdict count first last e ≡ passes → Accepted count first last × (e < length (mapOf count first last .entries))
   unfolding entryVerdict
   verdict-passes h =
       let p = order-passes count first last _ h in

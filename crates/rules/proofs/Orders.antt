@@ -1,17 +1,19 @@
 -- An order of checks that passes: each of its checks passes, so the load accepts the strings and the bank has its size.
 use mathlib.Core.Path.{_≡_, refl, _∙_}
-use mathlib.Core.Bool.{true}
+use mathlib.Core.Bool.{Bool, true, false, cond}
 use mathlib.Core.List.{List, _∷_}
 use Prim.Native.Nat.{ℕ, _≤_}
 use lib.Dec.{ltb}
 use native.Mathlib.Omega.{arith}
 use borrow.Author.Tests.{not-false, ltb-false}
-use Rattle.rules.specs.Words.{Loaded, accepted, rejected}
-use Rattle.rules.specs.Load.{sized, stringsOf}
-use Rattle.rules.specs.Refuse.{Verdict, passes, firstOf, check9, check8, refusalOf, check1to7, orderOf, bankOrder}
+use Rattle.rules.specs.Words.{Refusal, plain, Loaded, accepted, rejected}
+use Rattle.rules.specs.Load.{sized, stringsOf, loadOf}
+use Rattle.rules.specs.Refuse.{Verdict, passes, refuses, firstOf, check9, check8, refusalOf, check1to7, orderOf, bankOrder}
 use Rattle.rules.specs.Layout.{bankSize}
 use Rattle.rules.specs.Demands.{Accepted}
-use Rattle.rules.proofs.Verdicts.{refuse-if-passes, first-passes}
+use Rattle.rules.proofs.Verdicts.{refuse-if-passes, first-passes, order-open}
+use Rattle.rules.proofs.Walks.{check9-passes, check1to7-passes}
+use Rattle.rules.proofs.Steps.{order-9, order-1to7}
 use Rattle.rules.proofs.Loads.{load-strings}
 
 module _ (count : ℕ) (first last : List ℕ) where
@@ -44,3 +46,15 @@ module _ (count : ℕ) (first last : List ℕ) where
       let r = first-passes (check1to7 count first last) rest (q .1) in
       let small = refuse-if-passes (ltb size bankSize) _ (q .0) in
       (checks-accepted (p .0) (r .0), omega (arith, ltb-false), r .1)
+
+  -- the order of a call without a bank, from what the load says
+  pub order-refused : (r : Refusal) → loadOf count first last ≡ rejected r → (rest : List Verdict) → orderOf count first last rest ≡ refuses r
+  unfolding loadOf
+  order-refused r h rest = go (sized count first last) refl h
+    where
+      go : (t : Bool) → sized count first last ≡ t → cond t (stringsOf count first last) (rejected (plain 9)) ≡ rejected r → orderOf count first last rest ≡ refuses r
+      go true q x = order-1to7 count first last rest q r x
+      go false q x = let e : plain 9 ≡ r = cc in rw (← e) (order-9 count first last rest q)
+
+  pub order-accepted : Accepted count first last → (rest : List Verdict) → orderOf count first last rest ≡ firstOf rest
+  order-accepted ok rest = order-open count first last (check9-passes count first last ok) (check1to7-passes count first last ok) rest

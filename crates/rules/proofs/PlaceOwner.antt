@@ -20,6 +20,7 @@ use Rattle.rules.proofs.Good.{Good, GoodMap, held-lt, rw-held}
 use Rattle.rules.proofs.Walks.{map-good, load-counts, check9-passes, check1to7-passes}
 use Rattle.rules.proofs.Places.{Field, holds-field, field-of, read-held, field-width, in-entry, in-byte}
 use Rattle.rules.proofs.Fills.{rw-fills, ro-fills}
+use Rattle.rules.proofs.EntryParts.{entry-own}
 use Rattle.rules.proofs.Verdicts.{Judged, judge-passes, judged-passes, order-open}
 use Rattle.rules.proofs.Owners.{Covers, covers-says, covers-same, owner-covers, covers-owner, owner-none}
 
@@ -171,6 +172,7 @@ module _ (count : ℕ) (first last : List ℕ) (ok : Accepted count first last) 
         ro-fills = ro-fills count first last ok;
         loads = load-counts count first last ok;
         offsets = λ e h. omega (arith, offset-at 0 (m .entries) (g .list) e h);
+        own-bytes = entry-own count first last ok;
       }
     where
       lowest : (s e p i k q : ℕ) → placeOf count first last s e p i ≡ placedAt k q → PlaceCovers count first last s e p i k q

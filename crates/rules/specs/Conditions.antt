@@ -4,13 +4,13 @@ use mathlib.Core.Path.{_≡_}
 use mathlib.Core.Logic.{_⊎_}
 use mathlib.Core.Bool.{Bool, true, false}
 use mathlib.Core.List.{List, [], _∷_, _++_}
-use Prim.Native.Nat.{ℕ, _+_, _-_, _≤_, _<_}
+use Prim.Native.Nat.{ℕ, _+_, _-_, _%_, _≤_, _<_}
 use lib.ListN.{length}
 use lib.Dec.{T}
 use Rattle.rules.specs.Words.{Refusal, plain, atEntry, atLane, Entry, decoded, failed, State, Call, select, write, read, byteWrite, byteRead, publish, apply}
 use Rattle.rules.specs.Numbers.{bitOf}
 use Rattle.rules.specs.Parameter.{rowOf}
-use Rattle.rules.specs.Descriptor.{maskBytes, entryAt, decodeAt}
+use Rattle.rules.specs.Descriptor.{maskBytes, byteAt, decodeAt}
 use Rattle.rules.specs.Load.{start, next, intoRO, Map, mapOf}
 use Rattle.rules.specs.Place.{entry, partsOf, lengthOf}
 use Rattle.rules.specs.Accept.{accepts}
@@ -37,21 +37,40 @@ abbrev pub WrongString : Bool → ℕ → Type 0
 WrongString true id = (0x01 ≤ id) × (id ≤ 0x10)
 WrongString false id = (0x11 ≤ id) × (id ≤ 0x12)
 
-abbrev pub entryRules : Bool → ℕ → ℕ → State → Entry → List (Rule ℕ)
-entryRules ro a left st e =
-    gives 1 ((left ≡ 1) ⊎ (left < e .length))
-    ∷ gives 2 (e .length < rowOf (e .id) .least + a)
-    ∷ gives 3 (WrongString ro (e .id))
-    ∷ gives 4 (e .memory < rowOf (e .id) .needed)
-    ∷ gives 5 ((e .id ≡ 0x12) × (3 < e .step))
-    ∷ gives 6 ((0x02 ≤ e .id) × (e .id ≤ 0x08) × (e .media ≡ false) × (st .media ≡ true))
-    ∷ gives 7 (256 < st .sum + e .memory)
+-- an ID of the table: 02h to 08h, 0Fh to 12h
+abbrev pub InTable : ℕ → Type 0
+InTable id = ((0x02 ≤ id) × (id ≤ 0x08)) ⊎ ((0x0F ≤ id) × (id ≤ 0x12))
+
+-- a media-side table entry at a place of a string: PropertyFlags, "Bit 0 set means media side"
+abbrev pub MediaSide : ℕ → List ℕ → ℕ → Type 0
+MediaSide a s at = InTable (byteAt s at) × (byteAt s (at + 3 + a) % 2 ≡ 1)
+
+-- an entry at a state's place of a string, by its bytes; `left` is the number of bytes left
+abbrev pub entryRules : Bool → ℕ → List ℕ → State → List (Rule ℕ)
+entryRules ro a s st =
+    let left : ℕ = length s - st .at in
+    let id : ℕ = byteAt s (st .at) in
+    let size : ℕ = byteAt s (st .at + 1) in
+    let memory : ℕ = byteAt s (st .at + 2 + a) in
+    let step : ℕ = byteAt s (st .at + 5 + a) in
+    gives 1 ((left ≡ 1) ⊎ (left < size))
+    ∷ gives 2 (size < rowOf id .least + a)
+    ∷ gives 3 (WrongString ro id)
+    ∷ gives 4 (memory < rowOf id .needed)
+    ∷ gives 5 ((id ≡ 0x12) × (3 < step))
+    ∷ gives 6 ((0x02 ≤ id) × (id ≤ 0x08) × (¬ (MediaSide a s (st .at))) × (st .media ≡ true))
+    ∷ gives 7 (256 < st .sum + memory)
     ∷ []
 
 -- a walk from one state to another: each entry between them passes
 pub data Way (ro : Bool) (a : ℕ) (s : List ℕ) (end : State) : State → Type 0 where
   here : Way ro a s end end
   past : {st : State} (e : Entry) → st .at < length s → decodeAt ro a s st ≡ decoded e → Way ro a s end (next st e) → Way ro a s end st
+
+-- "after a media-side table entry": one that the walk goes past
+abbrev pub PastMedia : {ro : Bool} {a : ℕ} {s : List ℕ} {end from : State} → Way ro a s end from → Type 0
+PastMedia here = ⊥
+PastMedia {a} {s} (past {st} e l d w) = MediaSide a s (st .at) ⊎ PastMedia w
 
 -- "The first entry that fails any check ends the load; its entry number is answered too."
 pub record Stops (ro : Bool) (a : ℕ) (s : List ℕ) (from : State) (x : Refusal) : Type 0 where
@@ -165,3 +184,17 @@ stringRules count rw ro rest = gives (plain 9) (¬ (Sized count rw ro)) ∷ stri
 abbrev pub bankRules : ℕ → List ℕ → List ℕ → Bank → List (Rule Refusal) → List (Rule Refusal)
 bankRules count rw ro b rest =
     gives (plain 9) (¬ (Sized count rw ro)) ∷ gives (plain 8) (length b < bankSize) ∷ stringsRule count rw ro ∷ rest
+
+-- The reader: "the checks 9, 1 and 2 alone, in that order"
+
+abbrev pub ReaderSized : ℕ → List ℕ → Type 0
+ReaderSized count s = (1 ≤ count) × (count ≤ 15) × (length s ≤ 120)
+
+abbrev pub readerRules : ℕ → List ℕ → ℕ → List (Rule Refusal)
+readerRules count s position =
+    let left : ℕ = length s - position in
+    let size : ℕ = byteAt s (position + 1) in
+    gives (plain 9) (¬ (ReaderSized count s))
+    ∷ gives (plain 1) ((position < length s) × ((left ≡ 1) ⊎ (left < size)))
+    ∷ gives (plain 2) ((position < length s) × (size < rowOf (byteAt s position) .least + maskBytes count))
+    ∷ []

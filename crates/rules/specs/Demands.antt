@@ -1,23 +1,24 @@
 -- The statements: the three demands and the twelve settings. proofs/Demands.antt proves each.
 use mathlib.Core.Path.{_≡_}
 use mathlib.Core.Logic.{_⊎_, _↔_}
-use mathlib.Core.Bool.{Bool, true, false, _||_}
+use mathlib.Core.Bool.{Bool, true, false, _||_, cond}
 use mathlib.Core.List.{List, [], _∷_, _++_}
 use Prim.Native.Nat.{ℕ, _+_, _-_, _≤_, _<_}
 use lib.IntN.{pos, negsuc}
 use lib.ListN.{length, getD, take, drop}
 use lib.Dec.{T, eqb}
-use Rattle.rules.specs.Words.{Refusal, plain, atEntry, Entry, decoded, failed, State, accepted, rejected, Call, read, Answer, refused, placedAt, notPlaced, ownedBy, gap, notOwned}
+use Rattle.rules.specs.Words.{Refusal, plain, atEntry, Entry, decoded, failed, State, accepted, rejected, Call, read, Answer, refused, placedAt, notPlaced, ownedBy, gap, notOwned, noMore, notTaken}
 use Rattle.rules.specs.Numbers.{cut}
-use Rattle.rules.specs.Descriptor.{maskBytes, hasApp, entryAt, decodeAt}
-use Rattle.rules.specs.Load.{Map, loadOf, rwEntries, roEntries, total, mapOf}
-use Rattle.rules.specs.Place.{nothing, entry, widthOf, lengthOf, holds, fieldByte, fieldBit, covers}
+use Rattle.rules.specs.Descriptor.{maskBytes, hasApp, byteAt, entryAt, decodeAt}
+use Rattle.rules.specs.Load.{start, Map, loadOf, rwEntries, roEntries, total, mapOf}
+use Rattle.rules.specs.Place.{nothing, entry, widthOf, isRW, lengthOf, holds, fieldByte, fieldBit, covers}
 use Rattle.rules.specs.Accept.{accepts, toBits, fromBits, weightOf}
 use Rattle.rules.specs.Layout.{bankSize, setStart}
 use Rattle.rules.specs.Bank.{Bank, numberIn, appSelIn, bankStep, freshStep, runBank}
 use Rattle.rules.specs.Table.{Table, freshTable, runTable}
 use Rattle.rules.specs.Beside.{placeOf, ownerCall, entryAnswer, entryBytes, weightCall}
-use Rattle.rules.specs.Conditions.{Rule, gives, First, entryRules, Lane, planRules, callRules, stringRules, bankRules}
+use Rattle.rules.specs.Reader.{takeOf}
+use Rattle.rules.specs.Conditions.{Rule, gives, First, entryRules, Way, PastMedia, Lane, planRules, callRules, stringRules, bankRules, ReaderSized, readerRules}
 
 -- DEMAND 1: "A refused call gives the number that 01's order picks, changes no byte, and does its own checking."
 
@@ -31,7 +32,9 @@ pub record Keeps (b after : Bank) (isRefused : Type 0) : Type 0 where
 pub record Refusals (count : ℕ) (rw ro : List ℕ) (b : Bank) : Type 0 where
   -- one entry, in a string of any content, at any state: the first check that it fails, in the order 1 to 7
   pub one-entry : (inRO : Bool) (a : ℕ) (s : List ℕ) (st : State) (n : ℕ)
-      → (decodeAt inRO a s st ≡ failed n) ↔ First (entryRules inRO a (length s - st .at) st (entryAt a s st)) n
+      → (decodeAt inRO a s st ≡ failed n) ↔ First (entryRules inRO a s st) n
+  -- "after a media-side table entry of the RW string": what the state of a walk says is what the bytes that it went past say
+  pub media : (a : ℕ) (s : List ℕ) (st : State) (w : Way false a s st start) → (st .media ≡ true) ↔ PastMedia w
   -- the calls of demand 3, fresh, and the calls beside: a refusal is answered exactly if it is the first in 01's order
   pub call : (c : Call) (x : Refusal)
       → (bankStep count rw ro c b .0 ≡ refused x) ↔ First (bankRules count rw ro b (callRules (mapOf count rw ro) c ++ planRules (mapOf count rw ro) c b)) x
@@ -45,12 +48,17 @@ pub record Refusals (count : ℕ) (rw ro : List ℕ) (b : Bank) : Type 0 where
   pub own-entry : (e : ℕ) (x : Refusal)
       → (entryAnswer count rw ro e ≡ refused x)
       ↔ First (stringRules count rw ro (gives (plain 10) (¬ (e < length (mapOf count rw ro .entries))) ∷ [])) x
+  -- "refused: an empty part"
+  pub own-part : (e : ℕ) → (entryBytes count rw ro e ≡ []) ↔ ((x : Refusal) × (entryAnswer count rw ro e ≡ refused x))
   pub weight : (e i : ℕ) (x : Refusal)
       → (weightCall count rw ro b e i ≡ refused x)
       ↔ First
       (bankRules count rw ro b
       (gives (plain 10) (¬ ((e < length (mapOf count rw ro .entries)) × (entry (mapOf count rw ro) e .id ≡ 0x12) × Lane i)) ∷ []))
       x
+  -- the reader, over one string, at any position: its refusals, and "the end (no byte left from its position on, after check 9)"
+  pub reader : (s : List ℕ) (position : ℕ) (x : Refusal) → (takeOf count s position ≡ notTaken x) ↔ First (readerRules count s position) x
+  pub reader-end : (s : List ℕ) (position : ℕ) → (takeOf count s position ≡ noMore) ↔ (ReaderSized count s × (length s ≤ position))
   -- "every lent byte keeps its content"; "Longer buffers are untouched beyond."
   pub call-keeps : (c : Call) → Keeps b (bankStep count rw ro c b .1) ((x : Refusal) × (bankStep count rw ro c b .0 ≡ refused x))
   pub fresh-keeps : Keeps b (freshStep count rw ro b .1) ((x : Refusal) × (freshStep count rw ro b .0 ≡ rejected x))
@@ -87,6 +95,13 @@ pub record Fills (a : ℕ) (s : List ℕ) (l : List Entry) : Type 0 where
   pub says : (n : ℕ) → n < length l
       → getD l n nothing ≡ entryAt a s (record { at = getD l n nothing .start; number = n; sum = getD l n nothing .offset; media = false })
 
+-- the entry call's part is the entry's own bytes of the entry's own string
+pub record OwnBytes (count : ℕ) (rw ro : List ℕ) (e : ℕ) : Type 0 where
+  pub size : length (entryBytes count rw ro e) ≡ entry (mapOf count rw ro) e .length
+  pub bytes : (k : ℕ)
+      → k < entry (mapOf count rw ro) e .length
+      → byteAt (entryBytes count rw ro e) k ≡ byteAt (cond (isRW (mapOf count rw ro) e) rw ro) (entry (mapOf count rw ro) e .start + k)
+
 pub record OwnerAndPlace (count : ℕ) (rw ro : List ℕ) : Type 0 where
   -- a bit belongs to an entry, part and lane exactly when the placing of that lane's field covers the bit
   pub owner-is : (s k q e p i : ℕ) → (ownerCall count rw ro s k q ≡ ownedBy e p i) ↔ PlaceCovers count rw ro s e p i k q
@@ -122,6 +137,8 @@ pub record OwnerAndPlace (count : ℕ) (rw ro : List ℕ) : Type 0 where
       ≡ accepted (length (rwEntries count rw)) (length (roEntries count rw ro)) (total (rwEntries count rw)) (total (rwEntries count rw ++ roEntries count rw ro))
   -- "An entry's offset is the sum of the MemoryLengths before it."
   pub offsets : (e : ℕ) → e < length (mapOf count rw ro .entries) → entry (mapOf count rw ro) e .offset ≡ total (take e (mapOf count rw ro .entries))
+  -- "hands back that entry's own bytes"
+  pub own-bytes : (e : ℕ) → e < length (mapOf count rw ro .entries) → OwnBytes count rw ro e
 
 abbrev pub Demand2 : Type 0
 Demand2 = (count : ℕ) (rw ro : List ℕ) → Accepted count rw ro → OwnerAndPlace count rw ro

@@ -1,6 +1,7 @@
 // The types that every call speaks in. The rules are the definitions of specs/, the theorems about them are in proofs/.
 
-// A refusal: document 01's number alone (8 to 12), with the entry that it names (1 to 7), or with the lane (13, 14).
+// A refusal: document 01's number alone (8 to 12, and all of the reader's), with the entry that it names (1 to 7), or with the
+// lane (13, 14).
 pub enum Refusal {
     Plain(usize),
     AtEntry(usize, usize),

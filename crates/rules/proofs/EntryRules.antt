@@ -1,0 +1,156 @@
+-- The checks of one entry, 1 to 7, against the rules of 01: the first check that an entry fails is the first rule that applies.
+use mathlib.Core.Path.{_≡_, refl, sym}
+use mathlib.Core.Logic.{_↔_, Iff·trans}
+use mathlib.Core.Bool.{Bool, true, false, _&&_, _||_, not, Bool·beq}
+use mathlib.Core.List.{List, [], _∷_}
+use Prim.Native.Nat.{ℕ, _+_, _-_, _%_, _≤_, _<_}
+use native.Mathlib.Omega.{arith}
+use native.Mathlib.Decide.{decLt}
+use lib.ListN.{length, List·getD-eq-default}
+use lib.Dec.{T, ltb, leb, eqb, ltb→lt, lt→ltb, eqb→eq}
+use borrow.Author.Tests.{lt-leb, ne-eqb, eqb-false}
+use Rattle.rules.specs.Words.{Entry, Decoded, decoded, failed, State}
+use Rattle.rules.specs.Numbers.{any}
+use Rattle.rules.specs.Parameter.{both, Extras, none, codes, indexCodes, indexStep, rows, space, rowOf}
+use Rattle.rules.specs.Descriptor.{byteAt, stepOf, entryAt, mayStand, lateHost, refuse, lengthChecks, contentChecks, decodeAt}
+use Rattle.rules.specs.Conditions.{Rule, gives, First, WrongString, InTable, MediaSide, entryRules}
+use Rattle.rules.proofs.Tests.{from-true, and-no}
+use Rattle.rules.proofs.Any.{any-here}
+use Rattle.rules.proofs.Facts.{lt-says, le-says, eq-says, true-says, not-says, or-says, and-says, and-says₄}
+use Rattle.rules.proofs.Firsts.{first-here, first-past}
+
+-- a chain of checks fails by the first of some rules
+record Fails (d : Decoded) (rules : List (Rule ℕ)) : Type 0 where
+  is : (n : ℕ) → (d ≡ failed n) ↔ First rules n
+
+passed-all : (e : Entry) → Fails (decoded e) []
+passed-all e = record { is = λ n. (λ h. let o : _≡_ {A = ℕ} 0 1 = cc in omega arith, λ h. absurd h) }
+
+-- a check before a chain, and its rule before the chain's rules
+before :
+    {C : Type 0} {d : Decoded} {rules : List (Rule ℕ)} (t : Bool) (k : ℕ) → T t ↔ C → Fails d rules → Fails (refuse t k d) (gives k C ∷ rules)
+unfolding refuse
+before {C} {d} {rules} true k h f = record { is = λ n. Iff·trans (fails n) (first-here (gives k C) rules k (refl, h .0 tt) n) }
+  where
+    fails : (n : ℕ) → (failed k ≡ failed n) ↔ gives k C n
+    fails n = (λ q. let e : n ≡ k = cc in (e, h .0 tt), λ q. let e : n ≡ k = q .0 in rw e refl)
+before {C} {d} {rules} false k h f = record { is = λ n. Iff·trans (f .is n) (first-past (gives k C) rules (λ y z. h .1 (z .1)) n) }
+
+-- two tests on IDs that agree at every row, and at each ID past the rows
+by-row :
+    (f g : ℕ → Bool) → ¬ (T (any 19 (λ id. not (Bool·beq (f id) (g id))))) → ((id : ℕ) → 19 ≤ id → f id ≡ g id) → (id : ℕ) → f id ≡ g id
+by-row f g low high id = go (decLt id 19)
+  where
+    near : id < 19 → (t u : Bool) → f id ≡ t → g id ≡ u → t ≡ u
+    near l true true q r = refl
+    near l true false q r = absurd (low (any-here 19 _ id l (rw (q, r) tt)))
+    near l false true q r = absurd (low (any-here 19 _ id l (rw (q, r) tt)))
+    near l false false q r = refl
+
+    go : Dec (id < 19) → f id ≡ g id
+    go (yes l) = near l (f id) (g id) refl refl
+    go (no l) = high id (omega arith)
+
+row-past : (id : ℕ) → 19 ≤ id → rowOf id ≡ space both
+unfolding rowOf
+row-past id h = List·getD-eq-default rows (space both) h
+
+-- 3: the column `side` says what the ranges of 01 say
+abbrev wrong : Bool → ℕ → Bool
+wrong true id = leb 0x01 id && leb id 0x10
+wrong false id = leb 0x11 id && leb id 0x12
+
+wrong-says : (ro : Bool) (id : ℕ) → T (wrong ro id) ↔ WrongString ro id
+wrong-says true id = and-says (leb 0x01 id) (leb id 0x10) (le-says 0x01 id) (le-says id 0x10)
+wrong-says false id = and-says (leb 0x11 id) (leb id 0x12) (le-says 0x11 id) (le-says id 0x12)
+
+wrong-past : (ro : Bool) (id : ℕ) → 19 ≤ id → not (mayStand (rowOf id .side) ro) ≡ wrong ro id
+wrong-past true id h = rw (row-past id h, lt-leb id 0x10 (omega arith), and-no (leb 0x01 id))
+wrong-past false id h = rw (row-past id h, lt-leb id 0x12 (omega arith), and-no (leb 0x11 id))
+
+side-wrong : (ro : Bool) (id : ℕ) → not (mayStand (rowOf id .side) ro) ≡ wrong ro id
+unfolding any rowOf
+side-wrong true = by-row (λ id. not (mayStand (rowOf id .side) true)) (wrong true) (λ h. h) (wrong-past true)
+side-wrong false = by-row (λ id. not (mayStand (rowOf id .side) false)) (wrong false) (λ h. h) (wrong-past false)
+
+side-says : (ro : Bool) (id : ℕ) → T (not (mayStand (rowOf id .side) ro)) ↔ WrongString ro id
+side-says ro id = rw (side-wrong ro id) (wrong-says ro id)
+
+-- 5: 12h alone has a step
+abbrev hasStep : Extras → Bool
+hasStep none = false
+hasStep codes = false
+hasStep indexCodes = false
+hasStep indexStep = true
+
+step-past : (id : ℕ) → 19 ≤ id → hasStep (rowOf id .extras) ≡ eqb id 0x12
+step-past id h = rw (row-past id h, ne-eqb id 0x12 (omega arith))
+
+step-row : (id : ℕ) → hasStep (rowOf id .extras) ≡ eqb id 0x12
+unfolding any rowOf
+step-row = by-row (λ id. hasStep (rowOf id .extras)) (λ id. eqb id 0x12) (λ h. h) step-past
+
+step-says :
+    (id : ℕ) (s : List ℕ) (at : ℕ)
+    → T (ltb 3 (stepOf (rowOf id .extras) s at)) ↔ ((id ≡ 0x12) × (3 < byteAt s (at + 1)))
+unfolding stepOf
+step-says id s at = go (rowOf id .extras) (step-row id)
+  where
+    has-none : false ≡ eqb id 0x12 → ⊥ ↔ ((id ≡ 0x12) × (3 < byteAt s (at + 1)))
+    has-none q = (λ h. absurd h, λ h. eqb-false id 0x12 (sym q) (h .0))
+
+    go : (x : Extras) → hasStep x ≡ eqb id 0x12 → T (ltb 3 (stepOf x s at)) ↔ ((id ≡ 0x12) × (3 < byteAt s (at + 1)))
+    go none q = has-none q
+    go codes q = has-none q
+    go indexCodes q = has-none q
+    go indexStep q = (λ h. (eqb→eq id 0x12 (from-true (sym q)), ltb→lt 3 _ h), λ h. lt→ltb 3 _ (h .1))
+
+-- 6: the IDs with parts are those of the table
+abbrev inTable : ℕ → Bool
+inTable id = (leb 0x02 id && leb id 0x08) || (leb 0x0F id && leb id 0x12)
+
+in-table-says : (id : ℕ) → T (inTable id) ↔ InTable id
+in-table-says id =
+    or-says (leb 0x02 id && leb id 0x08) (leb 0x0F id && leb id 0x12)
+    (and-says (leb 0x02 id) (leb id 0x08) (le-says 0x02 id) (le-says id 0x08))
+    (and-says (leb 0x0F id) (leb id 0x12) (le-says 0x0F id) (le-says id 0x12))
+
+parts-past : (id : ℕ) → 19 ≤ id → ltb 0 (rowOf id .parts) ≡ inTable id
+parts-past id h =
+    rw (row-past id h, lt-leb id 0x08 (omega arith), lt-leb id 0x12 (omega arith), and-no (leb 0x02 id), and-no (leb 0x0F id))
+
+parts-row : (id : ℕ) → ltb 0 (rowOf id .parts) ≡ inTable id
+unfolding any rowOf
+parts-row = by-row (λ id. ltb 0 (rowOf id .parts)) inTable (λ h. h) parts-past
+
+module _ (a : ℕ) (s : List ℕ) (st : State) where
+  abbrev id : ℕ
+  id = byteAt s (st .at)
+
+  pub media-says : T (entryAt a s st .media) ↔ MediaSide a s (st .at)
+  media-says =
+      and-says (ltb 0 (rowOf id .parts)) (eqb (byteAt s (st .at + 3 + a) % 2) 1) (rw (parts-row id) (in-table-says id)) (eq-says _ 1)
+
+  late-says :
+      T (lateHost (entryAt a s st) (st .media)) ↔ ((0x02 ≤ id) × (id ≤ 0x08) × (¬ (MediaSide a s (st .at))) × (st .media ≡ true))
+  late-says =
+      let m : Bool = entryAt a s st .media in
+      and-says₄ (leb 2 id) (leb id 8) (not m) (st .media) (le-says 2 id) (le-says id 8) (not-says m media-says) (true-says (st .media))
+
+  entry-fails : (ro : Bool) → Fails (decodeAt ro a s st) (entryRules ro a s st)
+  unfolding decodeAt lengthChecks contentChecks
+  entry-fails ro =
+      let e : Entry = entryAt a s st in
+      let left : ℕ = length s - st .at in
+      let q : st .at + 5 + a ≡ st .at + 4 + a + 1 = omega arith in
+      before _ 1 (or-says (eqb left 1) (ltb left (e .length)) (eq-says left 1) (lt-says left (e .length)))
+      (before _ 2 (lt-says (e .length) (rowOf (e .id) .least + a))
+      (before _ 3 (side-says ro (e .id))
+      (before _ 4 (lt-says (e .memory) (rowOf (e .id) .needed))
+      (before _ 5 (rw q (step-says (e .id) s (st .at + 4 + a)))
+      (before _ 6 late-says
+      (before _ 7 (lt-says 256 (st .sum + e .memory))
+      (passed-all e)))))))
+
+pub entry-says : (ro : Bool) (a : ℕ) (s : List ℕ) (st : State) (n : ℕ) → (decodeAt ro a s st ≡ failed n) ↔ First (entryRules ro a s st) n
+entry-says ro a s st = entry-fails a s st ro .is
