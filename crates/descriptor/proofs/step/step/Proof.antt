@@ -1,0 +1,100 @@
+-- `step` meets its contract: 1 and 2 are tested as the rules test them, and `content` does the rest.
+use borrow.Author.Needs.{needs}
+use mathlib.Core.Path.{_≡_, refl, ap, _∙_}
+use mathlib.Core.Bool.{false}
+use Prim.Native.Nat.{ℕ, _+_, _-_, _<_}
+use native.Mathlib.Omega.{arith}
+use lib.ListN.{length, getD}
+use denote.Ref.{now}
+use borrow.Author.Tests.{lt-ltb, le-ltb, eq-eqb, ne-eqb}
+use Rattle.rules.specs.Parameter.{rowOf}
+use Rattle.rules.specs.Descriptor.{byteAt, entryAt, overruns, lengthChecks, decodeAt}
+use Rattle.rules.proofs.Rows.{row-least}
+use Rattle.descriptor.specs.Rows.{leastIn}
+use Rattle.descriptor.proofs.Table.{row}
+use Rattle.descriptor.proofs.Chain.{pass, stop}
+use Rattle.descriptor.proofs.step.step.Statement.{statement}
+use Rattle.descriptor.proofs.step.step.Tie as tie
+
+-- 1 is passed
+one : (c : tie.Else2) → let g = c .before .before .before .before .args in overruns (length (now (g .s)) - g .st .at) (entryAt (g .a) (now (g .s)) (g .st)) ≡ false
+one c = rw (ne-eqb _ _ (c .before .before .if1 .left), le-ltb _ _ (c .if2 .left)) refl
+
+length-lt : (c : tie.After-shared-slice-known2) → let g = c .before .before .before .args in getD (now (g .s)) (g .st .at + 1) 0 < 256
+length-lt c = let g = c .before .before .before .args in c .shared-slice-known2 .given (g .st .at + 1) .fits
+
+-- the least Length of the row that was found
+least : (c : tie.After-row-of) → let g = c .before .before .before .before .before .before .args in leastIn (c .row-of .result) ≡ rowOf (byteAt (now (g .s)) (g .st .at)) .least
+least c = let g = c .before .before .before .before .before .before .args in ap (λ (n : ℕ). leastIn n) (c .row-of .ensures) ∙ row (byteAt (now (g .s)) (g .st .at)) .least
+
+sub-left : tie.Need-sub-left
+sub-left c = search needs
+
+returns : tie.Need-returns
+unfolding decodeAt lengthChecks
+returns c = stop _ _ _ (rw (eq-eqb _ _ (c .if1 .taken)) refl)
+
+add-length : tie.Need-add-length
+add-length c = search needs
+
+shared-slice-read-length : tie.Need-shared-slice-read-length
+shared-slice-read-length c = search needs
+
+cast-length : tie.Need-cast-length
+cast-length c = omega (arith, length-lt c)
+
+returns-2 : tie.Need-returns-2
+unfolding decodeAt lengthChecks
+returns-2 c = stop _ _ _ (rw (ne-eqb _ _ (c .before .before .if1 .left), lt-ltb _ _ (c .if2 .taken)) refl)
+
+shared-slice-read-row-of : tie.Need-shared-slice-read-row-of
+shared-slice-read-row-of c = search needs
+
+row-of-requires : tie.Need-row-of-requires
+row-of-requires c κs = search needs
+
+cast-if3 : tie.Need-cast-if3
+cast-if3 c = search needs
+
+add-if3 : tie.Need-add-if3
+add-if3 c = search needs
+
+returns-3 : tie.Need-returns-3
+unfolding decodeAt lengthChecks
+returns-3 c = let k = c .before in pass _ _ _ (one (k .before .before)) (rw (← least k) (stop _ _ _ (lt-ltb _ _ (c .if3 .taken))))
+
+content-requires : tie.Need-content-requires
+content-requires c κs =
+    let k = c .before in
+    let b = k .before .before .before .before .before .before in
+    record {
+      row-is = k .row-of .ensures;
+      mask-low = b .pre .mask-low;
+      mask-top = b .pre .mask-top;
+      room = omega (arith, c .if3 .left, least k, row-least (byteAt (now (b .args .s)) (b .args .st .at)), k .before .before .if2 .left);
+      short = b .pre .short;
+      number = b .pre .number;
+      sum = b .pre .sum;
+    }
+
+returns-4 : tie.Need-returns-4
+unfolding decodeAt lengthChecks
+returns-4 c = let e = c .before in let k = e .before in pass _ _ _ (one (k .before .before)) (rw (← least k) (pass _ _ _ (le-ltb _ _ (e .if3 .left)) (c .content .ensures)))
+
+pub step-spec : {M : Type 1} → statement M
+step-spec =
+    tie.close
+    (tie.spec
+    sub-left
+    returns
+    add-length
+    shared-slice-read-length
+    cast-length
+    returns-2
+    shared-slice-read-row-of
+    row-of-requires
+    cast-if3
+    add-if3
+    returns-3
+    content-requires
+    returns-4)

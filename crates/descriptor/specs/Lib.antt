@@ -1,0 +1,5 @@
+-- What the functions of this crate mean beyond the rules: the rows as they stand in the code, and the step of a walk.
+pub mod Rows
+pub mod Steps
+pub mod Walks
+pub mod Locate

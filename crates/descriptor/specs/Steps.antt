@@ -1,0 +1,54 @@
+-- The step of a walk, in terms of the rules' decode of one entry.
+use mathlib.Core.Path.{_≡_}
+use mathlib.Core.Bool.{Bool, true, false, _&&_, not, cond}
+use mathlib.Core.List.{List}
+use Prim.Native.Nat.{ℕ, _+_, _≤_, _<_}
+use lib.ListN.{length}
+use lib.Dec.{leb, eqb}
+use Rattle.rules.specs.declared.State.{State}
+use Rattle.rules.specs.declared.Decoded.{Decoded}
+use Rattle.rules.specs.declared.Decoded.the-variants.{Entry as decoded, Refused as failed}
+use Rattle.rules.specs.Descriptor.{byteAt}
+use Rattle.rules.specs.Load.{next}
+use Rattle.descriptor.specs.declared.step.Stepped.{Stepped}
+use Rattle.descriptor.specs.declared.step.Stepped.the-variants.{Past as past, Refused as stops}
+use Rattle.descriptor.specs.Rows.{classes, rows, rowNumber, leastIn}
+
+-- what a walk makes of a decode
+abbrev pub steppedOf : State → Decoded → Stepped
+steppedOf st (decoded e) = past (next st e)
+steppedOf st (failed n) = stops n
+
+-- the step byte by the number of the extras
+unfoldable pub stepBy : ℕ → List ℕ → ℕ → ℕ
+stepBy extras s at = cond (eqb extras 3) (byteAt s (at + 1)) 0
+
+-- the number of the side whose IDs may not stand in a string
+abbrev pub otherOf : Bool → ℕ
+otherOf true = 1
+otherOf false = 2
+
+-- the test of 6
+abbrev pub lateBy : ℕ → Bool → Bool → Bool
+lateBy id media passed = leb 2 id && (leb id 8 && (not media && passed))
+
+-- a place of a string at which a step is made
+pub record Walking (table rowTable : List ℕ) (a : ℕ) (s : List ℕ) (st : State) : Type 0 where
+  pub classes-is : table ≡ classes
+  pub table-is : rowTable ≡ rows
+  pub mask-low : 1 ≤ a
+  pub mask-top : a ≤ 2
+  pub inside : st .at < length s
+  pub short : length s ≤ 120
+  pub number : st .number ≤ 1000
+  pub sum : st .sum ≤ 256
+
+-- the same past 1 and 2, with the row of the entry's ID
+pub record Standing (row a : ℕ) (s : List ℕ) (st : State) : Type 0 where
+  pub row-is : row ≡ rowNumber (byteAt s (st .at))
+  pub mask-low : 1 ≤ a
+  pub mask-top : a ≤ 2
+  pub room : st .at + leastIn row + a ≤ length s
+  pub short : length s ≤ 120
+  pub number : st .number ≤ 1000
+  pub sum : st .sum ≤ 256

@@ -1,0 +1,28 @@
+-- What a flat answer has for each case of an answer: 01's number and values.
+use mathlib.Core.Bool.{cond}
+use Prim.Native.Nat.{ℕ}
+use Rattle.rules.specs.declared.Refusal.{Refusal}
+use Rattle.rules.specs.declared.Refusal.the-variants.{Plain as plain, AtEntry as atEntry, AtLane as atLane}
+use Rattle.rules.specs.declared.Loaded.{Loaded}
+use Rattle.rules.specs.declared.Loaded.the-variants.{Accepted as accepted, Refused as rejected}
+use Rattle.descriptor.specs.declared.Located.{Located}
+use Rattle.descriptor.specs.declared.Located.the-variants.{At as at, Refused as nowhere}
+use Rattle.vcs.specs.declared.Reason.{Reason}
+use Rattle.vcs.specs.declared.FlatLoaded.{FlatLoaded}
+use Rattle.vcs.specs.declared.FlatEntry.{FlatEntry}
+
+-- the number of a refusal and its extra
+abbrev pub reasonOf : Refusal → Reason
+reasonOf (plain n) = record { number = n; at = 0 }
+reasonOf (atEntry n e) = record { number = n; at = e }
+reasonOf (atLane n i) = record { number = n; at = i }
+
+abbrev pub flatLoaded : Loaded → FlatLoaded
+flatLoaded (accepted n k c t) = record { refusal = 0; at = 0; rwcount = n; rocount = k; staged = c; active = t }
+flatLoaded (rejected r) =
+    record { refusal = reasonOf r .number; at = reasonOf r .at; rwcount = 0; rocount = 0; staged = 0; active = 0 }
+
+abbrev pub flatEntry : Located → FlatEntry
+flatEntry (at ro s l o) = record { refusal = 0; at = 0; string = cond ro 1 0; start = s; length = l; offset = o }
+flatEntry (nowhere r) =
+    record { refusal = reasonOf r .number; at = reasonOf r .at; string = 0; start = 0; length = 0; offset = 0 }

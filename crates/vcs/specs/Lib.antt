@@ -1,0 +1,2 @@
+-- The flat answers of the C interface.
+pub mod Flat

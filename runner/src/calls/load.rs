@@ -1,0 +1,45 @@
+//! The load: engine, second program and peer on one map.
+
+use super::reason;
+use crate::case::Case;
+use crate::engine::{self, Loaded};
+use crate::peer;
+use crate::report::{Answer, Report};
+use crate::tally::Row;
+
+pub static CALL: Row = Row { name: "load", numbers: &[0, 1, 2, 3, 4, 5, 6, 7, 9] };
+
+impl Answer for Loaded {
+    fn refusal(&self) -> usize {
+        self.refusal
+    }
+}
+
+fn of_second(case: &Case) -> Loaded {
+    match second::load(case.count, case.rw, case.ro) {
+        Ok(loaded) => Loaded {
+            refusal: 0,
+            at: 0,
+            rw_count: loaded.rw_entries,
+            ro_count: loaded.ro_entries,
+            staged_length: loaded.staged_length,
+            active_length: loaded.active_length,
+        },
+        Err(refusal) => {
+            let (number, at) = reason(refusal);
+            Loaded::refused(number, at)
+        }
+    }
+}
+
+/// Compares the load, also with further answers that are known. The answer, if all agree.
+pub fn compare(report: &mut Report, case: &Case, known: &[(&str, Loaded)]) -> Option<Loaded> {
+    let loaded = engine::load(case.count, case.rw, case.ro);
+    let mut others = vec![("second", of_second(case)), ("peer", peer::load(case.count, case.rw, case.ro))];
+    others.extend_from_slice(known);
+    let agree = report.compare(&CALL, case, &loaded, &others);
+    if agree {
+        report.reached.count(case, loaded);
+    }
+    agree.then_some(loaded)
+}

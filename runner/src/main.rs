@@ -1,0 +1,87 @@
+//! Compares the engine with the second program (no word), or times it against the plain peer (`bench`).
+
+mod bench;
+mod calls;
+mod case;
+mod damaged;
+mod engine;
+mod fixed;
+mod peer;
+mod program;
+mod random;
+mod reached;
+mod report;
+mod shape;
+mod strings;
+mod sweep;
+mod tally;
+mod valid;
+
+use std::process::ExitCode;
+
+use case::Case;
+use random::Random;
+use report::Report;
+use strings::{Flat, RW};
+
+/// Generated maps, beside the fixed ones and the sweep.
+const MAPS: u64 = 200_000;
+
+fn main() -> ExitCode {
+    let words: Vec<String> = std::env::args().skip(1).collect();
+    match words.iter().map(String::as_str).collect::<Vec<_>>()[..] {
+        [] if compare() => ExitCode::SUCCESS,
+        [] => ExitCode::FAILURE,
+        ["bench"] => {
+            bench::run();
+            ExitCode::SUCCESS
+        }
+        _ => {
+            eprintln!("usage: runner [bench]");
+            ExitCode::FAILURE
+        }
+    }
+}
+
+fn compare() -> bool {
+    let mut calls = calls::CALLS.to_vec();
+    if program::exists() {
+        calls.push(&program::CALL);
+    }
+    let mut report = Report::new(&calls);
+
+    fixed::compare(&mut report);
+    sweep::sweep(|map| calls::compare(&mut report, &map.case()));
+    for seed in 0..MAPS {
+        let map = any_map(&Random::new(seed));
+        calls::compare(&mut report, &map.case());
+        if seed % 16 == 0 {
+            shared_buffer(&mut report, &map);
+        }
+    }
+    if program::exists() {
+        program::compare(&mut report);
+    } else {
+        println!("target/bin/map is not built: the map program is not compared\n");
+    }
+    report.finish()
+}
+
+/// A map from one of the generators.
+fn any_map(random: &Random) -> Flat {
+    match random.below(16) {
+        0..=4 => valid::valid(random).flat(),
+        5..=10 => damaged::damaged(random),
+        11 | 12 => damaged::changed(random),
+        13 | 14 => damaged::bordering(random),
+        _ => damaged::noise(random),
+    }
+}
+
+/// Both strings lent from one buffer: the same part twice, and a part that begins inside the other.
+fn shared_buffer(report: &mut Report, map: &Flat) {
+    let buffer = &map.strings[RW];
+    calls::compare(report, &Case { count: map.count, rw: buffer, ro: buffer });
+    let middle = buffer.len() / 2;
+    calls::compare(report, &Case { count: map.count, rw: buffer, ro: &buffer[middle..] });
+}

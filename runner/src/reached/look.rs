@@ -1,0 +1,135 @@
+//! A look at a load and its answer: the entries that were passed, and the entry that ended it.
+
+use crate::case::Case;
+use crate::engine::Loaded;
+use crate::shape::{mask_bytes, shape, TABLE};
+use crate::strings::{LARGEST, RO, RW};
+
+/// An entry: its string, and the bytes from its ID to the string's end.
+#[derive(Clone, Copy)]
+pub struct Seen<'a> {
+    pub string: usize,
+    pub rest: &'a [u8],
+}
+
+impl Seen<'_> {
+    pub fn id(&self) -> u8 {
+        self.rest[0]
+    }
+
+    /// Length, if there is a second byte.
+    pub fn length(&self) -> Option<usize> {
+        self.rest.get(1).map(|&length| usize::from(length))
+    }
+}
+
+pub struct Look<'a> {
+    pub case: Case<'a>,
+    pub answer: Loaded,
+    pub a: usize,
+    passed: Vec<Seen<'a>>,
+    stop: Option<Seen<'a>>,
+}
+
+impl<'a> Look<'a> {
+    pub fn new(case: Case<'a>, answer: Loaded) -> Look<'a> {
+        let mut look = Look { case, answer, a: mask_bytes(case.count), passed: Vec::new(), stop: None };
+        if answer.refusal == 9 {
+            return look;
+        }
+        for string in [RW, RO] {
+            let mut rest = case.string(string);
+            while !rest.is_empty() && look.stop.is_none() {
+                let seen = Seen { string, rest };
+                if answer.refusal != 0 && look.passed.len() == answer.at {
+                    look.stop = Some(seen);
+                } else {
+                    look.passed.push(seen);
+                    rest = &rest[usize::from(rest[1])..];
+                }
+            }
+        }
+        look
+    }
+
+    pub fn accepted(&self) -> bool {
+        self.answer.refusal == 0
+    }
+
+    /// Every entry of an accepted map, or those before the stop.
+    pub fn passed(&self) -> &[Seen<'a>] {
+        &self.passed
+    }
+
+    /// The entry that refused the load.
+    pub fn stop(&self) -> Option<Seen<'a>> {
+        self.stop
+    }
+
+    /// Refused with this number, at an entry for which the test holds.
+    pub fn refused(&self, number: usize, test: impl Fn(&Seen) -> bool) -> bool {
+        self.answer.refusal == number && self.stop.is_some_and(|stop| test(&stop))
+    }
+
+    /// Accepted, with an entry for which the test holds.
+    pub fn with(&self, test: impl Fn(&Seen) -> bool) -> bool {
+        self.accepted() && self.passed.iter().any(test)
+    }
+
+    /// Refused with 9, and the test holds.
+    pub fn nine(&self, test: bool) -> bool {
+        self.answer.refusal == 9 && test
+    }
+
+    pub fn least(&self, entry: &Seen) -> usize {
+        shape(entry.id()).least + self.a
+    }
+
+    pub fn needed(&self, entry: &Seen) -> usize {
+        shape(entry.id()).needed.into()
+    }
+
+    /// MemoryLength, if the byte is there.
+    pub fn memory(&self, entry: &Seen) -> Option<usize> {
+        entry.rest.get(2 + self.a).map(|&memory| usize::from(memory))
+    }
+
+    /// The byte after MemoryLength is odd: for an ID of the table, media side.
+    pub fn odd(&self, entry: &Seen) -> bool {
+        entry.rest.get(3 + self.a).is_some_and(|flags| flags & 1 == 1)
+    }
+
+    /// The step byte of a 12h entry, if it is there.
+    pub fn step(&self, entry: &Seen) -> Option<u8> {
+        entry.rest.get(5 + self.a).filter(|_| entry.id() == 0x12).copied()
+    }
+
+    /// The sum of the MemoryLengths that were passed, with this entry's.
+    pub fn sum_with(&self, entry: &Seen) -> usize {
+        let before: usize = self.passed.iter().filter_map(|entry| self.memory(entry)).sum();
+        before + self.memory(entry).unwrap_or(0)
+    }
+
+    /// The first media-side table entry of the RW string that was passed.
+    pub fn first_media(&self) -> Option<&Seen<'a>> {
+        let media = |e: &&Seen| e.string == RW && TABLE[RW].contains(&e.id()) && self.odd(e);
+        self.passed.iter().find(media)
+    }
+
+    /// A check from 1 to 7, looked at by itself, fails at this entry.
+    pub fn fails(&self, number: usize, entry: &Seen) -> bool {
+        match number {
+            1 => entry.length().is_none_or(|length| length > entry.rest.len()),
+            2 => entry.length().is_some_and(|length| length < self.least(entry)),
+            3 => match entry.id() {
+                0x01..=0x10 => entry.string == RO,
+                0x11 | 0x12 => entry.string == RW,
+                _ => false,
+            },
+            4 => self.memory(entry).is_some_and(|memory| memory < self.needed(entry)),
+            5 => self.step(entry).is_some_and(|step| step > 3),
+            6 => (0x02..=0x08).contains(&entry.id()) && !self.odd(entry) && self.first_media().is_some(),
+            _ => self.sum_with(entry) > LARGEST,
+        }
+    }
+}

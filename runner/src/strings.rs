@@ -1,0 +1,146 @@
+//! Two strings as lists of entries, which the generators build and damage entry by entry.
+
+use crate::case::Case;
+use crate::random::Random;
+use crate::shape::{mask_bytes, shape, RW_OPAQUE, TABLE};
+
+pub const RW: usize = 0;
+pub const RO: usize = 1;
+
+/// The longest string that is accepted.
+pub const LONGEST: usize = 120;
+/// The largest sum of MemoryLengths that is accepted.
+pub const LARGEST: usize = 256;
+
+#[derive(Clone)]
+pub struct Strings {
+    pub count: usize,
+    pub entries: [Vec<Vec<u8>>; 2],
+}
+
+impl Strings {
+    pub fn new(count: usize) -> Strings {
+        Strings { count, entries: [Vec::new(), Vec::new()] }
+    }
+
+    pub fn a(&self) -> usize {
+        mask_bytes(self.count)
+    }
+
+    /// The place of MemoryLength in an entry.
+    pub fn memory_at(&self) -> usize {
+        2 + self.a()
+    }
+
+    pub fn flags_at(&self) -> usize {
+        3 + self.a()
+    }
+
+    pub fn step_at(&self) -> usize {
+        5 + self.a()
+    }
+
+    pub fn size(&self, string: usize) -> usize {
+        self.entries[string].iter().map(Vec::len).sum()
+    }
+
+    /// MemoryLength of an entry, 0 if it was cut off.
+    pub fn memory(&self, entry: &[u8]) -> usize {
+        entry.get(self.memory_at()).map_or(0, |&memory| usize::from(memory))
+    }
+
+    /// The sum of all MemoryLengths.
+    pub fn sum(&self) -> usize {
+        self.entries.iter().flatten().map(|entry| self.memory(entry)).sum()
+    }
+
+    /// The sum of the MemoryLengths before an entry.
+    pub fn sum_before(&self, string: usize, index: usize) -> usize {
+        let rw = if string == RO { self.entries[RW].len() } else { 0 };
+        let before = self.entries[RW][..rw].iter().chain(&self.entries[string][..index]);
+        before.map(|entry| self.memory(entry)).sum()
+    }
+
+    /// A media-side table entry stands in RW.
+    pub fn has_media(&self) -> bool {
+        self.entries[RW].iter().any(|entry| TABLE[RW].contains(&entry[0]) && entry[self.flags_at()] & 1 == 1)
+    }
+
+    pub fn flat(&self) -> Flat {
+        Flat { count: self.count, strings: [self.entries[RW].concat(), self.entries[RO].concat()] }
+    }
+}
+
+/// Both strings as bytes.
+#[derive(Clone)]
+pub struct Flat {
+    pub count: usize,
+    pub strings: [Vec<u8>; 2],
+}
+
+impl Flat {
+    pub fn case(&self) -> Case<'_> {
+        Case { count: self.count, rw: &self.strings[RW], ro: &self.strings[RO] }
+    }
+}
+
+/// An ID that may stand in the string: of the table, 00h, or opaque.
+pub fn right_id(random: &Random, string: usize) -> u8 {
+    match random.below(10) {
+        0..=5 => random.pick(TABLE[string]),
+        6 => 0x00,
+        7 if string == RW => random.pick(&RW_OPAQUE),
+        _ => high_opaque(random),
+    }
+}
+
+/// An ID that may not stand in the string.
+pub fn wrong_id(random: &Random, string: usize) -> u8 {
+    if string == RW {
+        random.pick(TABLE[RO])
+    } else if random.once_in(3) {
+        random.pick(&RW_OPAQUE)
+    } else {
+        random.pick(TABLE[RW])
+    }
+}
+
+pub fn high_opaque(random: &Random) -> u8 {
+    match random.below(4) {
+        0 => 0x13,
+        1 => 0xFF,
+        _ => random.within(0x13, 0xFF) as u8,
+    }
+}
+
+/// An entry that passes the checks 1 to 5 by itself. `media` is PropertyFlags bit 0, or the odd byte of an opaque entry.
+pub fn good_entry(random: &Random, count: usize, id: u8, media: bool) -> Vec<u8> {
+    let a = mask_bytes(count);
+    let surplus = match random.below(6) {
+        0 => 1,
+        1 => random.below(12),
+        _ => 0,
+    };
+    let mut entry = random.bytes(shape(id).least + a + surplus);
+    entry[0] = id;
+    entry[1] = entry.len() as u8;
+    entry[2 + a] = memory(random, shape(id).needed);
+    if let Some(flags) = entry.get_mut(3 + a) {
+        *flags = *flags & 0xFE | u8::from(media);
+    }
+    if id == 0x12 {
+        entry[5 + a] = random.below(4) as u8;
+    }
+    entry
+}
+
+/// A MemoryLength of at least the need.
+fn memory(random: &Random, needed: u8) -> u8 {
+    let surplus = match (needed, random.below(8)) {
+        (_, 0) => random.within(1, 40),
+        (_, 1) => 1,
+        (0, 2..=5) => random.below(6),
+        _ => 0,
+    };
+    needed + surplus as u8
+}

@@ -1,0 +1,101 @@
+//! A second, independent rendering of the paper "The versatile control set:
+//! maps, banks and applied settings". Words in quotes are the paper's.
+//!
+//! Method: both strings are read completely into a list of entries, or the
+//! refusal (`map`). The map is then expanded into one owner for every bit of a
+//! set, and a bank into a dictionary of numbers (`bank`). Every question is
+//! answered from these. The plain table (`table`) judges calls and places
+//! fields by its own rendering of the same words, so that the two can be run
+//! against each other.
+
+#![forbid(unsafe_code)]
+
+mod bank;
+mod judge;
+mod map;
+mod program;
+mod questions;
+mod reader;
+mod table;
+
+pub use bank::{fresh, perform, weight};
+pub use program::map_program;
+pub use questions::{entries, entry_bytes, load, owner, place};
+pub use reader::{reader_step, Reader};
+pub use table::Table;
+
+/// "A refusal gives its number and the extras above": the entry number with 1
+/// to 7, the lowest such lane with 13 and 14, nothing with 8 to 12.
+#[derive(Clone, Copy, Debug, PartialEq, Eq)]
+pub struct Refusal {
+    pub number: u32,
+    pub entry: Option<usize>,
+    pub lane: Option<usize>,
+}
+
+impl Refusal {
+    /// 8 to 12, "the caller": no extras.
+    pub(crate) fn caller(number: u32) -> Refusal {
+        Refusal { number, entry: None, lane: None }
+    }
+
+    /// 1 to 7, "the module's maker": "its entry number is answered too".
+    pub(crate) fn maker(number: u32, entry: usize) -> Refusal {
+        Refusal { number, entry: Some(entry), lane: None }
+    }
+
+    /// 13 and 14, "the host's plan, at apply, with the lowest such lane".
+    pub(crate) fn plan(number: u32, lane: usize) -> Refusal {
+        Refusal { number, entry: None, lane: Some(lane) }
+    }
+}
+
+/// "answers both entry counts and both lengths".
+#[derive(Clone, Copy, Debug, PartialEq, Eq)]
+pub struct Loaded {
+    pub rw_entries: usize,
+    pub ro_entries: usize,
+    pub staged_length: usize,
+    pub active_length: usize,
+}
+
+/// One accepted entry. `start` counts from the first byte of its own string,
+/// `length` is the Length byte, `memory` the MemoryLength.
+#[derive(Clone, Copy, Debug, PartialEq, Eq)]
+pub struct EntryInfo {
+    pub id: u8,
+    pub start: usize,
+    pub length: usize,
+    pub offset: usize,
+    pub memory: usize,
+    pub in_ro: bool,
+}
+
+/// The calls of the paper's list, fresh apart. Lanes count from 1.
+#[derive(Clone, Copy, Debug, PartialEq, Eq)]
+pub enum Call {
+    Select { set: usize, lane: usize, app: usize },
+    Write { set: usize, entry: usize, part: usize, lane: usize, value: i64 },
+    Read { set: usize, entry: usize, part: usize, lane: usize },
+    ByteWrite { set: usize, offset: usize, byte: u8 },
+    ByteRead { set: usize, offset: usize },
+    Publish { entry: usize, part: usize, lane: usize, value: i64 },
+    Apply { set: usize, lanes: u8 },
+}
+
+/// "An accepted call without another answer says yes."
+#[derive(Clone, Copy, Debug, PartialEq, Eq)]
+pub enum Answer {
+    Yes,
+    Number(i64),
+    Refused(Refusal),
+}
+
+/// The reader's step: "gives the next entry's start and length, a refusal, or
+/// the end".
+#[derive(Clone, Copy, Debug, PartialEq, Eq)]
+pub enum Step {
+    Entry { start: usize, length: usize },
+    Refused(u32),
+    End,
+}

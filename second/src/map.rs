@@ -1,0 +1,423 @@
+//! "What a module advertises" and "Where a field lies": the table of IDs, the
+//! reading of both strings into a list of entries, and the owners' list.
+
+use crate::{EntryInfo, Loaded, Refusal, Step};
+
+/// The lanes of a part: "lane i, 1 to 8".
+pub const LANES: usize = 8;
+/// The bits of one set: 256 bytes.
+pub const SET_BITS: usize = 2048;
+
+// ---------------------------------------------------------------------------
+// "Every rule about an ID is read from this table"
+// ---------------------------------------------------------------------------
+
+/// The strings an ID may stand in.
+#[derive(Clone, Copy, Debug, PartialEq, Eq)]
+pub enum Side {
+    Rw,
+    Ro,
+    Either,
+}
+
+/// "the extras named in the table", in the order they are named.
+#[derive(Clone, Copy, Debug, PartialEq, Eq)]
+pub enum Extras {
+    None,
+    CodeMask,
+    IndexCodeMask,
+    IndexStep,
+}
+
+/// One line of the table, or one of the two kinds without fields.
+#[derive(Debug)]
+pub struct Row {
+    /// An ID of the table: it has PropertyFlags and fields.
+    pub in_table: bool,
+    pub side: Side,
+    pub parts: usize,
+    /// W, "the bits a lane".
+    pub width: usize,
+    pub needed: usize,
+    /// The least Length is this + A.
+    pub least: usize,
+    pub extras: Extras,
+    /// "A field of 11h or 12h holds a two's complement number".
+    pub signed: bool,
+    /// Accepted values as ranges, both ends in; a code mask comes on top.
+    pub accepted: &'static [(i64, i64)],
+}
+
+/// The classes of IDs; the rows stand in this order.
+#[derive(Clone, Copy, Debug, PartialEq, Eq)]
+enum Class {
+    Id02h05h06h,
+    Id03h,
+    Id04h,
+    Id07h,
+    Id08h,
+    Id0Fh10h,
+    Id11h,
+    Id12h,
+    /// 00h and 13h to FFh, "in either string".
+    SpaceInEither,
+    /// 01h and 09h to 0Eh, opaque: "01h to 10h only in RW".
+    SpaceInRw,
+}
+
+#[rustfmt::skip]
+const ROWS: [Row; 10] = [
+    Row { in_table: true, side: Side::Rw, parts: 1, width: 1, needed: 1, least: 4, extras: Extras::None, signed: false, accepted: &[(0, 1)] },
+    Row { in_table: true, side: Side::Rw, parts: 1, width: 2, needed: 2, least: 4, extras: Extras::None, signed: false, accepted: &[(0, 2)] },
+    Row { in_table: true, side: Side::Rw, parts: 1, width: 4, needed: 4, least: 6, extras: Extras::CodeMask, signed: false, accepted: &[(0, 15)] },
+    Row { in_table: true, side: Side::Rw, parts: 2, width: 4, needed: 8, least: 7, extras: Extras::IndexCodeMask, signed: false, accepted: &[(0, 7), (11, 15)] },
+    Row { in_table: true, side: Side::Rw, parts: 1, width: 4, needed: 4, least: 6, extras: Extras::CodeMask, signed: false, accepted: &[(0, 3), (15, 15)] },
+    Row { in_table: true, side: Side::Rw, parts: 1, width: 8, needed: 8, least: 4, extras: Extras::None, signed: false, accepted: &[(0, 255)] },
+    Row { in_table: true, side: Side::Ro, parts: 2, width: 8, needed: 16, least: 4, extras: Extras::None, signed: true, accepted: &[(-128, 127)] },
+    Row { in_table: true, side: Side::Ro, parts: 1, width: 8, needed: 8, least: 6, extras: Extras::IndexStep, signed: true, accepted: &[(-128, 127)] },
+    Row { in_table: false, side: Side::Either, parts: 0, width: 0, needed: 0, least: 3, extras: Extras::None, signed: false, accepted: &[] },
+    Row { in_table: false, side: Side::Rw, parts: 0, width: 0, needed: 0, least: 3, extras: Extras::None, signed: false, accepted: &[] },
+];
+
+fn class(id: u8) -> Class {
+    match id {
+        0x02 | 0x05 | 0x06 => Class::Id02h05h06h,
+        0x03 => Class::Id03h,
+        0x04 => Class::Id04h,
+        0x07 => Class::Id07h,
+        0x08 => Class::Id08h,
+        0x0F | 0x10 => Class::Id0Fh10h,
+        0x11 => Class::Id11h,
+        0x12 => Class::Id12h,
+        0x00 | 0x13..=0xFF => Class::SpaceInEither,
+        0x01 | 0x09..=0x0E => Class::SpaceInRw,
+    }
+}
+
+pub fn row(id: u8) -> &'static Row {
+    &ROWS[class(id) as usize]
+}
+
+// ---------------------------------------------------------------------------
+// The list of entries
+// ---------------------------------------------------------------------------
+
+/// One accepted entry with everything its bytes say.
+#[derive(Clone, Copy, Debug)]
+pub struct Entry {
+    pub info: EntryInfo,
+    pub row: &'static Row,
+    /// apps[n]: the application mask has AppSel n. 0 and AppSels above the
+    /// count are never in it.
+    pub apps: [bool; 16],
+    /// PropertyFlags bit 0: "Bit 0 set means media side." False where the
+    /// flags are not read.
+    pub media: bool,
+    pub code_mask: Option<u16>,
+    pub step: Option<u8>,
+}
+
+impl Entry {
+    /// The column "accepted values", "if in the mask" where there is one.
+    pub fn accepts(&self, value: i64) -> bool {
+        let in_table = self.row.accepted.iter().any(|&(low, high)| low <= value && value <= high);
+        let in_mask = match self.code_mask {
+            None => true,
+            // "value v is in it if bit v is 1"
+            Some(mask) => (0..16).contains(&value) && (mask >> value) & 1 == 1,
+        };
+        in_table && in_mask
+    }
+
+    /// "each RW field whose entry's mask has the lane's AppSel"
+    pub fn has_app(&self, app: usize) -> bool {
+        self.apps.get(app).copied().unwrap_or(false)
+    }
+
+    /// The number that a field's bits, read as an unsigned pattern, hold.
+    pub fn number(&self, pattern: u8) -> i64 {
+        let pattern = i64::from(pattern);
+        if self.row.signed && pattern >= 1 << (self.row.width - 1) {
+            pattern - (1 << self.row.width)
+        } else {
+            pattern
+        }
+    }
+
+    /// The unsigned pattern of a number that a field holds; the inverse of
+    /// `number`.
+    pub fn pattern(&self, number: i64) -> u8 {
+        let pattern = if number < 0 { number + (1 << self.row.width) } else { number };
+        pattern as u8
+    }
+}
+
+/// Both strings, read and accepted.
+#[derive(Clone, Debug)]
+pub struct Map {
+    pub count: usize,
+    pub entries: Vec<Entry>,
+    pub loaded: Loaded,
+}
+
+/// 9: "count not 1 to 15, or a string over 120".
+pub fn check_9(count: usize, strings: &[&[u8]]) -> Result<(), Refusal> {
+    if !(1..=15).contains(&count) || strings.iter().any(|string| string.len() > 120) {
+        return Err(Refusal::caller(9));
+    }
+    Ok(())
+}
+
+/// A: "1 for a count of 1 to 8 and 2 above".
+pub fn mask_bytes(count: usize) -> usize {
+    if count <= 8 {
+        1
+    } else {
+        2
+    }
+}
+
+/// One step of the walk over a string, with the checks 1 and 2 alone.
+pub fn walk(a: usize, string: &[u8], position: usize) -> Step {
+    let left = string.len().saturating_sub(position);
+    if left == 0 {
+        return Step::End;
+    }
+    // 1: "one byte left, or Length exceeds the bytes left, both counted from
+    // the entry's ID on"
+    if left == 1 {
+        return Step::Refused(1);
+    }
+    let id = string[position];
+    let length = usize::from(string[position + 1]);
+    if length > left {
+        return Step::Refused(1);
+    }
+    // 2: "Length below the least". The least is above 0, so the walk moves on.
+    if length < row(id).least + a {
+        return Step::Refused(2);
+    }
+    Step::Entry { start: position, length }
+}
+
+/// A piece of a string: an entry's start and length, or the refusal 1 or 2.
+type Piece = Result<(usize, usize), u32>;
+
+/// A string cut into its pieces; a refusal is the last piece.
+fn cut(a: usize, string: &[u8]) -> Vec<Piece> {
+    let mut pieces = Vec::new();
+    let mut position = 0;
+    loop {
+        match walk(a, string, position) {
+            Step::End => return pieces,
+            Step::Refused(number) => {
+                pieces.push(Err(number));
+                return pieces;
+            }
+            // "The next entry begins directly after the last byte."
+            Step::Entry { start, length } => {
+                pieces.push(Ok((start, length)));
+                position = start + length;
+            }
+        }
+    }
+}
+
+/// The decode of one piece.
+#[derive(Clone, Copy, Debug)]
+enum Decoded {
+    Entry(Entry),
+    Refused(u32),
+}
+
+/// Decodes a piece that follows the entries `before`.
+fn decode(count: usize, string: &[u8], in_ro: bool, piece: Piece, before: &[Entry]) -> Decoded {
+    let (start, length) = match piece {
+        Ok(piece) => piece,
+        Err(number) => return Decoded::Refused(number),
+    };
+    let a = mask_bytes(count);
+    let bytes = &string[start..start + length];
+    let id = bytes[0];
+    let row = row(id);
+
+    // 3: "ID in the wrong string"
+    let right = match row.side {
+        Side::Rw => !in_ro,
+        Side::Ro => in_ro,
+        Side::Either => true,
+    };
+    if !right {
+        return Decoded::Refused(3);
+    }
+
+    // 4: "MemoryLength below the bytes needed"
+    let memory = usize::from(bytes[2 + a]);
+    if memory < row.needed {
+        return Decoded::Refused(4);
+    }
+
+    // PropertyFlags, then the extras; check 2 has them all inside the entry.
+    let two = |at: usize| u16::from(bytes[at]) << 8 | u16::from(bytes[at + 1]);
+    let media = row.in_table && bytes[3 + a] & 1 == 1;
+    let code_mask = match row.extras {
+        Extras::CodeMask => Some(two(4 + a)),
+        Extras::IndexCodeMask => Some(two(5 + a)),
+        Extras::None | Extras::IndexStep => None,
+    };
+    let step = match row.extras {
+        Extras::IndexStep => Some(bytes[5 + a]),
+        Extras::None | Extras::CodeMask | Extras::IndexCodeMask => None,
+    };
+
+    // 5: "step above 3"
+    if step.is_some_and(|step| step > 3) {
+        return Decoded::Refused(5);
+    }
+
+    // 6: "an ID of 02h to 08h, host side, after a media-side table entry of
+    // the RW string". `media` is set for table entries alone.
+    if (0x02..=0x08).contains(&id) && !media && before.iter().any(|e| !e.info.in_ro && e.media) {
+        return Decoded::Refused(6);
+    }
+
+    // 7: "the sum of MemoryLengths passes 256", this entry's own in it
+    let offset: usize = before.iter().map(|e| e.info.memory).sum();
+    if offset + memory > 256 {
+        return Decoded::Refused(7);
+    }
+
+    // "application mask, A bytes, high byte first"; "Bit n of the mask means
+    // AppSel n + 1; bits above the count are ignored"
+    let mask = if a == 1 { u16::from(bytes[2]) } else { two(2) };
+    let mut apps = [false; 16];
+    for n in 0..count {
+        apps[n + 1] = (mask >> n) & 1 == 1;
+    }
+
+    let info = EntryInfo { id, start, length, offset, memory, in_ro };
+    Decoded::Entry(Entry { info, row, apps, media, code_mask, step })
+}
+
+impl Map {
+    /// "The load is the check of both strings": 9, then 1 to 7.
+    pub fn read(count: usize, rw: &[u8], ro: &[u8]) -> Result<Map, Refusal> {
+        check_9(count, &[rw, ro])?;
+        let a = mask_bytes(count);
+
+        // "Entries are numbered from 0, RW first, RO after." A refusal in the
+        // RW string stands before every RO piece, so these then count nothing.
+        let mut pieces = Vec::new();
+        pieces.extend(cut(a, rw).into_iter().map(|piece| (false, piece)));
+        pieces.extend(cut(a, ro).into_iter().map(|piece| (true, piece)));
+
+        // "The first entry that fails any check ends the load"
+        let mut entries: Vec<Entry> = Vec::new();
+        for (number, &(in_ro, piece)) in pieces.iter().enumerate() {
+            let string = if in_ro { ro } else { rw };
+            let decoded = decode(count, string, in_ro, piece, &entries);
+            let Decoded::Entry(entry) = decoded else {
+                return Err(decoded.refusal(number));
+            };
+            entries.push(entry);
+        }
+
+        // "The staged length is the RW sum, the active length the sum of all."
+        let rw_part = || entries.iter().filter(|e| !e.info.in_ro);
+        let loaded = Loaded {
+            rw_entries: rw_part().count(),
+            ro_entries: entries.len() - rw_part().count(),
+            staged_length: rw_part().map(|e| e.info.memory).sum(),
+            active_length: entries.iter().map(|e| e.info.memory).sum(),
+        };
+        Ok(Map { count, entries, loaded })
+    }
+
+    /// "An offset is judged against its own set's length."
+    pub fn set_length(&self, set: usize) -> usize {
+        if set == 2 {
+            self.loaded.active_length
+        } else {
+            self.loaded.staged_length
+        }
+    }
+
+    /// "that the set holds (staged: RW only)"
+    pub fn set_holds(&self, set: usize, entry: usize) -> bool {
+        self.entries.get(entry).is_some_and(|e| set == 2 || !e.info.in_ro)
+    }
+}
+
+impl Decoded {
+    /// "its entry number is answered too"
+    fn refusal(self, entry: usize) -> Refusal {
+        match self {
+            Decoded::Refused(number) => Refusal::maker(number, entry),
+            Decoded::Entry(_) => unreachable!("an entry is no refusal"),
+        }
+    }
+}
+
+// ---------------------------------------------------------------------------
+// The owners' list
+// ---------------------------------------------------------------------------
+
+/// The owner of one bit of a set, and which bit of the field it is. Small
+/// numbers: a map has at most 60 entries (two strings of 120 bytes, 4 bytes
+/// at least each).
+#[derive(Clone, Copy, Debug, PartialEq, Eq)]
+pub struct Owner {
+    entry: u8,
+    part: u8,
+    lane: u8,
+    nth: u8,
+}
+
+impl Owner {
+    pub fn new(entry: usize, part: usize, lane: usize, nth: usize) -> Owner {
+        Owner { entry: entry as u8, part: part as u8, lane: lane as u8, nth: nth as u8 }
+    }
+
+    /// Entry, part and lane.
+    pub fn field(&self) -> (usize, usize, usize) {
+        (usize::from(self.entry), usize::from(self.part), usize::from(self.lane))
+    }
+
+    /// Which bit of the field, 0 the lowest.
+    pub fn nth(&self) -> usize {
+        usize::from(self.nth)
+    }
+
+    pub fn same_field(&self, other: &Owner) -> bool {
+        (self.entry, self.part, self.lane) == (other.entry, other.part, other.lane)
+    }
+}
+
+/// One owner for every bit of a set, bit k of byte n at 8 × n + k. None is a
+/// gap: "All bits in no field, surplus MemoryLength included, are gaps."
+pub type Owners = Vec<Option<Owner>>;
+
+impl Map {
+    /// Expands the map of one set. "Part p starts at offset + p × W"; from
+    /// there the lanes follow each other, W bits each, the lowest bits first:
+    /// "lane 1 takes the lowest bits of the part's first byte".
+    pub fn owners(&self, set: usize) -> Owners {
+        let mut owners = vec![None; SET_BITS];
+        for (number, entry) in self.entries.iter().enumerate() {
+            if !self.set_holds(set, number) {
+                continue;
+            }
+            let width = entry.row.width;
+            for part in 0..entry.row.parts {
+                let mut at = (entry.info.offset + part * width) * 8;
+                for lane in 1..=LANES {
+                    for nth in 0..width {
+                        owners[at] = Some(Owner::new(number, part, lane, nth));
+                        at += 1;
+                    }
+                }
+            }
+        }
+        owners
+    }
+}

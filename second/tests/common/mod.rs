@@ -1,0 +1,238 @@
+#![allow(dead_code)]
+//! Helpers of the tests: entries by their parts, refusals, a random source.
+
+use second::*;
+
+/// The bytes of an entry of a count 1 to 8 (A = 1): mask, MemoryLength, then
+/// flags and extras as `rest`.
+pub fn entry(id: u8, mask: u8, memory: u8, rest: &[u8]) -> Vec<u8> {
+    let mut bytes = vec![id, 4 + rest.len() as u8, mask, memory];
+    bytes.extend_from_slice(rest);
+    bytes
+}
+
+/// The same of a count 9 to 15 (A = 2), mask high byte first.
+pub fn entry2(id: u8, mask: u16, memory: u8, rest: &[u8]) -> Vec<u8> {
+    let mut bytes = vec![id, 5 + rest.len() as u8, (mask >> 8) as u8, mask as u8, memory];
+    bytes.extend_from_slice(rest);
+    bytes
+}
+
+pub fn caller(number: u32) -> Refusal {
+    Refusal { number, entry: None, lane: None }
+}
+
+pub fn maker(number: u32, entry: usize) -> Refusal {
+    Refusal { number, entry: Some(entry), lane: None }
+}
+
+pub fn plan(number: u32, lane: usize) -> Refusal {
+    Refusal { number, entry: None, lane: Some(lane) }
+}
+
+pub fn refused(refusal: Refusal) -> Answer {
+    Answer::Refused(refusal)
+}
+
+/// A module under test: the same calls to the packed bank and to the table,
+/// which must answer alike and show the same bank after each call.
+pub struct Pair {
+    pub count: usize,
+    pub rw: Vec<u8>,
+    pub ro: Vec<u8>,
+    pub bank: Vec<u8>,
+    pub table: Table,
+}
+
+impl Pair {
+    pub fn fresh(count: usize, rw: &[u8], ro: &[u8]) -> Pair {
+        let mut bank = vec![0xA5; 784];
+        fresh(count, rw, ro, &mut bank).unwrap();
+        let table = Table::fresh(count, rw, ro).unwrap();
+        Pair { count, rw: rw.to_vec(), ro: ro.to_vec(), bank, table }
+    }
+
+    pub fn call(&mut self, call: Call) -> Answer {
+        let answer = perform(self.count, &self.rw, &self.ro, &mut self.bank, call);
+        assert_eq!(answer, self.table.perform(call), "{call:?}");
+        assert!(self.bank[..] == self.table.bank()[..], "{call:?}");
+        answer
+    }
+
+    pub fn select(&mut self, set: usize, lane: usize, app: usize) -> Answer {
+        self.call(Call::Select { set, lane, app })
+    }
+
+    pub fn write(&mut self, set: usize, entry: usize, part: usize, lane: usize, value: i64) -> Answer {
+        self.call(Call::Write { set, entry, part, lane, value })
+    }
+
+    pub fn read(&mut self, set: usize, entry: usize, part: usize, lane: usize) -> Answer {
+        self.call(Call::Read { set, entry, part, lane })
+    }
+
+    pub fn byte_write(&mut self, set: usize, offset: usize, byte: u8) -> Answer {
+        self.call(Call::ByteWrite { set, offset, byte })
+    }
+
+    pub fn byte_read(&mut self, set: usize, offset: usize) -> Answer {
+        self.call(Call::ByteRead { set, offset })
+    }
+
+    pub fn publish(&mut self, entry: usize, part: usize, lane: usize, value: i64) -> Answer {
+        self.call(Call::Publish { entry, part, lane, value })
+    }
+
+    pub fn apply(&mut self, set: usize, lanes: u8) -> Answer {
+        self.call(Call::Apply { set, lanes })
+    }
+
+    pub fn weight(&self, entry: usize, lane: usize) -> Result<i64, Refusal> {
+        weight(self.count, &self.rw, &self.ro, &self.bank, entry, lane)
+    }
+}
+
+/// A random source (splitmix64).
+pub struct Random(pub u64);
+
+impl Random {
+    pub fn next(&mut self) -> u64 {
+        self.0 = self.0.wrapping_add(0x9E37_79B9_7F4A_7C15);
+        let mut z = self.0;
+        z = (z ^ (z >> 30)).wrapping_mul(0xBF58_476D_1CE4_E5B9);
+        z = (z ^ (z >> 27)).wrapping_mul(0x94D0_49BB_1331_11EB);
+        z ^ (z >> 31)
+    }
+
+    /// A number below `n`.
+    pub fn below(&mut self, n: usize) -> usize {
+        (self.next() % n as u64) as usize
+    }
+
+    pub fn byte(&mut self) -> u8 {
+        self.next() as u8
+    }
+
+    pub fn chance(&mut self, one_in: usize) -> bool {
+        self.below(one_in) == 0
+    }
+
+    pub fn pick<T: Copy>(&mut self, list: &[T]) -> T {
+        list[self.below(list.len())]
+    }
+
+    pub fn bytes(&mut self, n: usize) -> Vec<u8> {
+        (0..n).map(|_| self.byte()).collect()
+    }
+}
+
+/// An entry that is mostly good for its string, by the paper's table.
+pub fn random_entry(random: &mut Random, count: usize, in_ro: bool) -> Vec<u8> {
+    let rw_ids = [0x02, 0x03, 0x04, 0x05, 0x06, 0x07, 0x08, 0x0F, 0x10, 0x00, 0x01, 0x0A, 0x77];
+    let ro_ids = [0x11, 0x12, 0x11, 0x12, 0x00, 0x13, 0xFF];
+    let id: u8 = if random.chance(60) {
+        random.byte()
+    } else if in_ro {
+        random.pick(&ro_ids)
+    } else {
+        random.pick(&rw_ids)
+    };
+    let (needed, extras): (u8, usize) = match id {
+        0x02 | 0x05 | 0x06 => (1, 0),
+        0x03 => (2, 0),
+        0x04 | 0x08 => (4, 2),
+        0x07 => (8, 3),
+        0x0F | 0x10 => (8, 0),
+        0x11 => (16, 0),
+        0x12 => (8, 2),
+        _ => (0, 0),
+    };
+    let table = matches!(id, 0x02..=0x08 | 0x0F..=0x12);
+    let memory = match random.below(12) {
+        0 => random.byte(),
+        1..=3 => needed + random.below(4) as u8,
+        _ if !table => random.below(6) as u8,
+        _ => needed,
+    };
+    let mut bytes = vec![id, 0];
+    bytes.extend((0..if count <= 8 { 1 } else { 2 }).map(|_| random.byte() | random.byte()));
+    bytes.push(memory);
+    if table {
+        // Mostly host side first, as 6 asks.
+        let side = if id >= 0x0F || random.chance(15) { random.byte() & 1 } else { 0 };
+        bytes.push(random.byte() & 0xFE | side);
+        bytes.extend((0..extras).map(|_| random.byte() | random.byte()));
+        if id == 0x12 && !random.chance(30) {
+            *bytes.last_mut().unwrap() &= 3;
+        }
+    }
+    bytes.extend((0..random.pick(&[0, 0, 0, 1, 3])).map(|_| 0xEE));
+    bytes[1] = bytes.len() as u8;
+    if random.chance(80) {
+        bytes[1] = random.byte();
+    }
+    bytes
+}
+
+/// A string of such entries, at most 120 bytes.
+pub fn random_string(random: &mut Random, count: usize, in_ro: bool) -> Vec<u8> {
+    let wanted = random.below(if in_ro { 5 } else { 9 });
+    let mut string = Vec::new();
+    for _ in 0..wanted {
+        let next = random_entry(random, count, in_ro);
+        if string.len() + next.len() <= 120 {
+            string.extend(next);
+        }
+    }
+    string
+}
+
+/// A random map that is accepted.
+pub fn random_map(random: &mut Random) -> (usize, Vec<u8>, Vec<u8>, Loaded) {
+    loop {
+        let count = 1 + random.below(15);
+        let rw = random_string(random, count, false);
+        let ro = random_string(random, count, true);
+        if let Ok(loaded) = load(count, &rw, &ro) {
+            return (count, rw, ro, loaded);
+        }
+    }
+}
+
+/// A random call, mostly inside the map, sometimes far out.
+pub fn random_call(random: &mut Random, count: usize, loaded: &Loaded) -> Call {
+    let huge = [usize::MAX, usize::MAX / 8, 1 << 32, 256, 2048];
+    let number = |random: &mut Random, from: usize, below: usize| match random.below(40) {
+        0 => random.pick(&huge),
+        1 => below,
+        2 => from.wrapping_sub(1),
+        _ => from + random.below((below - from).max(1)),
+    };
+    let set = if random.chance(12) { number(random, 0, 3) } else { random.below(2) };
+    let any_set = number(random, 0, 3);
+    let entry = number(random, 0, loaded.rw_entries + loaded.ro_entries);
+    let rw_entry = if random.chance(10) { entry } else { random.below(loaded.rw_entries.max(1)) };
+    let ro_entry = if random.chance(10) {
+        entry
+    } else {
+        loaded.rw_entries + random.below(loaded.ro_entries.max(1))
+    };
+    let part = if random.chance(4) { number(random, 0, 2) } else { 0 };
+    let lane = number(random, 1, 9);
+    let value = match random.below(10) {
+        0 => random.pick(&[i64::MIN, i64::MAX, -1, 256, -129, 128, -128, 127, 16]),
+        1 => random.below(256) as i64,
+        2 => -(random.below(130) as i64),
+        _ => random.below(16) as i64,
+    };
+    let offset = number(random, 0, if any_set == 2 { loaded.active_length } else { loaded.staged_length });
+    match random.below(10) {
+        0 | 1 => Call::Select { set, lane, app: if random.chance(12) { number(random, 0, count + 1) } else { 1 + random.below(count) } },
+        2 | 3 => Call::Write { set, entry: rw_entry, part, lane, value },
+        4 => Call::Read { set: any_set, entry, part, lane },
+        5 => Call::ByteWrite { set, offset, byte: if random.chance(3) { random.byte() } else { random.byte() & 0x33 } },
+        6 => Call::ByteRead { set: any_set, offset },
+        7 => Call::Publish { entry: ro_entry, part, lane, value },
+        _ => Call::Apply { set, lanes: if random.chance(4) { random.byte() } else { 1 << random.below(8) } },
+    }
+}
