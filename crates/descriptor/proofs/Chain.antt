@@ -33,7 +33,7 @@ stands RO false = refl
 stands both true = refl
 stands both false = refl
 
-step-by : (x : Extras) (s : List ℕ) (at : ℕ) → stepBy (extrasNumber x) s at ≡ stepOf x s at
+pub step-by : (x : Extras) (s : List ℕ) (at : ℕ) → stepBy (extrasNumber x) s at ≡ stepOf x s at
 unfolding stepOf stepBy
 step-by none s at = refl
 step-by codes s at = refl

@@ -4,3 +4,10 @@ pub mod Chain
 pub mod Scan
 pub mod Both
 pub mod Locates
+pub mod Wides
+pub mod Looks
+pub mod Finds
+pub mod Covers
+pub mod Puts
+pub mod Lines
+pub mod Maps

@@ -1,7 +1,7 @@
 -- The rows of the code are those of document 01's table, at every ID: one test, computed for each ID that the table names and for the others.
 use mathlib.Core.Path.{_≡_, refl}
 use mathlib.Core.Bool.{Bool, true, _&&_, cond}
-use Prim.Native.Nat.{ℕ, zero, suc, _+_, _<_}
+use Prim.Native.Nat.{ℕ, zero, suc, _+_, _≤_, _<_}
 use native.Mathlib.Omega.{arith}
 use native.Mathlib.Decide.{ℕ-discrete, decLt}
 use lib.Dec.{T, eqb, eqb→eq, ltb, ltb→lt, leb, leb→le}
@@ -35,6 +35,11 @@ at (suc n) f t k l = go (ℕ-discrete k n) (at n f (and₂ (f n) (below n f) t .
     go : Dec (k ≡ n) → (k < n → T (f k)) → T (f k)
     go (yes q) r = rw q (and₂ (f n) (below n f) t .0)
     go (no q) r = r (omega arith)
+
+-- an ID that the table does not name
+pub row-none : (id : ℕ) → 19 ≤ id → rowOf id ≡ space both
+unfolding rowOf
+row-none id l = List·getD-eq-default tableRows (space both) {n = id} l
 
 tested : (id : ℕ) → T (test id (rowNumber id))
 unfolding rowOf rowNumber

@@ -1,21 +1,37 @@
 // Reading: the load of both descriptor strings, where an entry stands, and an entry's own bytes.
 ghost use mathlib.Core.Path.{_≡_};
-ghost use Rattle.rules.specs.Load.{loadOf};
+ghost use mathlib.Core.List.{_++_};
+ghost use Prim.Native.Nat.{_≤_, _<_};
+ghost use lib.ListN.{length, drop};
+ghost use Rattle.rules.specs.Load.{sized, loadOf};
+ghost use Rattle.rules.specs.MapProgram.{mapOutput};
 ghost use Rattle.rules.specs.Beside.{entryAnswer, entryBytes};
 ghost use Rattle.descriptor.specs.Locate.{locatedOf};
+ghost use Rattle.descriptor.specs.Find.{foundOf, shapeOf};
+ghost use Rattle.descriptor.specs.Cover.{coverOf};
 
 mod rows; // constant rows by ID class
 mod step; // one entry: the checks 1 to 7
 mod walk; // one string, and both
+mod wide; // one entry: all of its bytes
+mod search; // the entry whose space covers a byte
+mod text; // the map program's text
 
 use crate::rows::CLASSES;
 use crate::rows::ROWS;
+use crate::rows::row_of;
+use crate::search::look;
+use crate::step::byte_at;
+use crate::text::put_refused;
+use crate::text::put_strings;
 use crate::walk::in_limits;
 use crate::walk::mask_bytes;
 use crate::walk::read_both;
 use crate::walk::refused;
 use crate::walk::scan;
+use crate::wide::entry_at;
 use rules::Answer;
+use rules::Entry;
 use rules::Loaded;
 use rules::Refusal;
 use rules::Walked;
@@ -29,6 +45,13 @@ pub enum Located {
         offset: usize,
     },
     Refused(Refusal),
+}
+
+// 9: the count is 1 to 15 and no string is over 120.
+pub fn limits(count: usize, rw: &[u8], ro: &[u8]) -> bool
+    ensures { λ r. ⌜ r ≡ sized count (now (rw .entry)) (now (ro .entry)) ⌝ }
+{
+    in_limits(count, rw, ro)
 }
 
 // The load: the check of both strings, their entry counts and lengths.
@@ -129,4 +152,102 @@ pub fn entry_bytes<'a>(count: usize, rw: &'a [u8], ro: &'a [u8], entry: usize) -
         return &ro[start..end];
     }
     &rw[start..end]
+}
+
+// An entry, with the string that it stands in.
+pub enum Found {
+    In { ro: bool, entry: Entry },
+    Refused(Refusal),
+}
+
+// The entry of a number, or the refusal of the entry call.
+pub fn find(count: usize, rw: &[u8], ro: &[u8], entry: usize) -> Found
+    ensures { λ r. ⌜ r ≡ foundOf count (now (rw .entry)) (now (ro .entry)) entry ⌝ }
+{
+    let place = locate(count, rw, ro, entry);
+    match place {
+        Located::Refused(r) => Found::Refused(r),
+        Located::At {
+            ro: in_ro,
+            start,
+            length: _,
+            offset,
+        } => {
+            let a = mask_bytes(count);
+            if in_ro {
+                let e = entry_at(a, ro, start, offset);
+                return Found::In { ro: true, entry: e };
+            }
+            let e = entry_at(a, rw, start, offset);
+            Found::In {
+                ro: false,
+                entry: e,
+            }
+        }
+    }
+}
+
+// What the table says of an ID's fields: its parts and its bits a lane.
+pub struct Shape {
+    pub parts: usize,
+    pub width: usize,
+}
+
+pub fn shape_of(id: usize) -> Shape
+    ensures { λ r. ⌜ (r ≡ shapeOf id) × (r .parts < 16) × (r .width < 16) ⌝ }
+{
+    if id < 256 {
+        let classes = CLASSES;
+        let table = ROWS;
+        let row = row_of(&classes, &table, id as u8);
+        return Shape {
+            parts: (row / 0x100000 % 16) as usize,
+            width: (row / 0x10000 % 16) as usize,
+        };
+    }
+    Shape { parts: 0, width: 0 }
+}
+
+// The entry whose space covers a byte of a set, with the string that it stands in.
+pub enum Covered {
+    By {
+        ro: bool,
+        number: usize,
+        id: usize,
+        offset: usize,
+    },
+    Nothing,
+    Refused(Refusal),
+}
+
+// The first entry whose space covers a byte, once the load has accepted the strings.
+pub fn cover(count: usize, rw: &[u8], ro: &[u8], offset: usize) -> Covered
+    ensures { λ r. ⌜ r ≡ coverOf count (now (rw .entry)) (now (ro .entry)) offset ⌝ }
+{
+    let loaded = load(count, rw, ro);
+    match loaded {
+        Loaded::Refused(r) => Covered::Refused(r),
+        Loaded::Accepted {
+            rw_count,
+            ro_count,
+            staged_length: _,
+            active_length: _,
+        } => look(count, rw, ro, rw_count, rw_count + ro_count, offset),
+    }
+}
+
+// What the map program prints for an input, written from the beginning of a buffer, with its length.
+pub fn map_text(input: &[u8], out: &mut [u8; 1024]) -> usize
+    ensures size { λ r. ⌜ r ≡ length (mapOutput (now (input .entry))) ⌝ }
+    ensures room { λ r. ⌜ r ≤ 1024 ⌝ }
+    ensures text { λ _. ⌜ now (out .exit) ≡ mapOutput (now (input .entry)) ++ drop (length (mapOutput (now (input .entry)))) (now (out .entry)) ⌝ }
+{
+    let rw_end = 2 + byte_at(input, 1) as usize;
+    let ro_size = byte_at(input, rw_end) as usize;
+    let ro_start = rw_end + 1;
+    if input.len() != ro_start + ro_size {
+        return put_refused(out, Refusal::Plain(9));
+    }
+    let count = input[0] as usize;
+    put_strings(count, &input[2..rw_end], &input[ro_start..], out)
 }

@@ -24,7 +24,7 @@ pub fn byte_at(s: &[u8], i: usize) -> u8
 }
 
 // The step byte of an entry whose extras begin at a place, 0 where its ID has none.
-fn step_at(extras: u32, s: &[u8], at: usize) -> u8
+pub fn step_at(extras: u32, s: &[u8], at: usize) -> u8
     requires { ⌜ at ≤ 1000 ⌝ }
     ensures { λ r. ⌜ r ≡ stepBy extras (now (s .entry)) at ⌝ }
 {

@@ -8,6 +8,7 @@ pub mod Sums
 pub mod Tile
 pub mod Codes
 pub mod Rows
+pub mod Ids
 pub mod Checks
 pub mod Folds
 pub mod Reached
@@ -34,8 +35,15 @@ pub mod Cover
 pub mod Put
 pub mod Bytes
 pub mod Owners
+pub mod OwnerAt
 pub mod PlaceOwner
 pub mod EntryParts
+pub mod EntryHeads
+pub mod LoadNumber
+pub mod Decimals
+pub mod Lines
+pub mod MapInput
+pub mod PlaceCalls
 pub mod ReaderWalk
 pub mod Gaps
 pub mod Holds

@@ -1,5 +1,5 @@
 -- An order of checks that passes: each of its checks passes, so the load accepts the strings and the bank has its size.
-use mathlib.Core.Path.{_≡_, refl, _∙_}
+use mathlib.Core.Path.{_≡_, refl, sym, _∙_}
 use mathlib.Core.Bool.{Bool, true, false, cond}
 use mathlib.Core.List.{List, _∷_}
 use Prim.Native.Nat.{ℕ, _≤_}
@@ -11,9 +11,9 @@ use Rattle.rules.specs.Load.{sized, stringsOf, loadOf}
 use Rattle.rules.specs.Refuse.{Verdict, passes, refuses, firstOf, check9, check8, refusalOf, check1to7, orderOf, bankOrder}
 use Rattle.rules.specs.Layout.{bankSize}
 use Rattle.rules.specs.Demands.{Accepted}
-use Rattle.rules.proofs.Verdicts.{refuse-if-passes, first-passes, order-open}
+use Rattle.rules.proofs.Verdicts.{refuse-if-passes, first-passes, order-open, bank-order-open}
 use Rattle.rules.proofs.Walks.{check9-passes, check1to7-passes}
-use Rattle.rules.proofs.Steps.{order-9, order-1to7}
+use Rattle.rules.proofs.Steps.{order-9, order-1to7, bank-order-1to7}
 use Rattle.rules.proofs.Loads.{load-strings}
 
 module _ (count : ℕ) (first last : List ℕ) where
@@ -58,3 +58,16 @@ module _ (count : ℕ) (first last : List ℕ) where
 
   pub order-accepted : Accepted count first last → (rest : List Verdict) → orderOf count first last rest ≡ firstOf rest
   order-accepted ok rest = order-open count first last (check9-passes count first last ok) (check1to7-passes count first last ok) rest
+
+  -- the order of a call with a bank that is long enough, from what the load says
+  pub bank-order-refused :
+      (r : Refusal)
+      → sized count first last ≡ true
+      → loadOf count first last ≡ rejected r
+      → (size : ℕ) (rest : List Verdict)
+      → bankSize ≤ size
+      → bankOrder count first last size rest ≡ refuses r
+  bank-order-refused r h q size rest l = bank-order-1to7 count first last rest size h l r (sym (load-strings count first last h) ∙ q)
+
+  pub bank-order-accepted : Accepted count first last → (size : ℕ) (rest : List Verdict) → bankSize ≤ size → bankOrder count first last size rest ≡ firstOf rest
+  bank-order-accepted ok size rest l = bank-order-open count first last (check9-passes count first last ok) (check1to7-passes count first last ok) size rest l

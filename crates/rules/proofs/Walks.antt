@@ -82,7 +82,7 @@ good-append n (i ∷ l) r p q =
     let e : n + (i .memory + total l) ≡ n + i .memory + total l = omega arith in
     (p .0, p .1, good-append (n + i .memory) l r (p .2) (subst (λ (m : ℕ). Good m r) e q))
 
-total-append : (l r : List Entry) → total (l ++ r) ≡ total l + total r
+pub total-append : (l r : List Entry) → total (l ++ r) ≡ total l + total r
 unfolding total
 total-append [] r = sym (zero-add (total r))
 total-append (i ∷ l) r = let e = total-append l r in omega arith
