@@ -34,11 +34,38 @@ typedef struct {
     size_t offset;
 } vcs_located;
 
+/* Where a field stands in a set: its first byte, and its lowest bit there, 0 to 7. */
+typedef struct {
+    size_t refusal;
+    size_t at;
+    size_t byte;
+    size_t bit;
+} vcs_placed;
+
+/* Whose a bit of a set is: entry, part and lane (1 to 8) of its field. In a gap `gap` is 1 and these are 0. */
+typedef struct {
+    size_t refusal;
+    size_t at;
+    size_t gap;
+    size_t entry;
+    size_t part;
+    size_t lane;
+} vcs_owned;
+
 /* The load: the check of both strings. Refusals 9, 1 to 7. */
 vcs_loaded vcs_load(size_t count, const uint8_t *rw, size_t rw_length, const uint8_t *ro, size_t ro_length);
 
 /* The entry call: the entry's own bytes are `length` bytes from `start` of its string. Refusals 9, 1 to 7, 10. */
 vcs_located vcs_entry(size_t count, const uint8_t *rw, size_t rw_length, const uint8_t *ro, size_t ro_length, size_t entry);
+
+/* The place call: the field of an entry, part and lane (1 to 8) in staged set 0 or 1, or in the active set, 2. Refusals 9,
+   1 to 7, 10, 11. */
+vcs_placed vcs_place(size_t count, const uint8_t *rw, size_t rw_length, const uint8_t *ro, size_t ro_length, size_t set,
+                     size_t entry, size_t part, size_t lane);
+
+/* The owner call: bit 0 to 7 of the byte at an offset of a set. Refusals 9, 1 to 7, 10. */
+vcs_owned vcs_owner(size_t count, const uint8_t *rw, size_t rw_length, const uint8_t *ro, size_t ro_length, size_t set,
+                    size_t offset, size_t bit);
 
 #ifdef __cplusplus
 }

@@ -42,7 +42,7 @@ pub fn run() {
         let (rw, ro) = (hex(rw), hex(ro));
         let loaded = engine::load(4, &rw, &ro);
         assert_eq!(loaded.refusal, 0, "the {name} map is accepted");
-        let entries = loaded.rw_count + loaded.ro_count;
+        let entries = loaded.entries();
         let last = entries - 1;
         row(
             &format!("{name}, load"),

@@ -24,22 +24,50 @@ pub struct Located {
     pub offset: usize,
 }
 
+/// vcs_placed: byte and lowest bit of a field, the answer of the place call.
+#[repr(C)]
+#[derive(Clone, Copy, Debug, Default, PartialEq, Eq)]
+pub struct Placed {
+    pub refusal: usize,
+    pub at: usize,
+    pub byte: usize,
+    pub bit: usize,
+}
+
+/// vcs_owned: the field that a bit belongs to, or gap, the answer of the owner call.
+#[repr(C)]
+#[derive(Clone, Copy, Debug, Default, PartialEq, Eq)]
+pub struct Owned {
+    pub refusal: usize,
+    pub at: usize,
+    pub gap: usize,
+    pub entry: usize,
+    pub part: usize,
+    pub lane: usize,
+}
+
 impl Loaded {
-    /// A refusal with the entry that it names, or 0; every other member is 0.
-    pub fn refused(refusal: usize, at: usize) -> Loaded {
-        Loaded { refusal, at, ..Loaded::default() }
+    /// The entries of an accepted map, or those before the entry that refused it.
+    pub fn entries(&self) -> usize {
+        self.rw_count + self.ro_count + self.at
     }
 }
 
-impl Located {
-    /// A refusal with the entry that it names, or 0; every other member is 0.
-    pub fn refused(refusal: usize, at: usize) -> Located {
-        Located { refusal, at, ..Located::default() }
-    }
+macro_rules! refused {
+    ($($answer:ident)*) => {$(
+        impl $answer {
+            /// A refusal with the entry that it names, or 0; every other member is 0.
+            pub fn refused(refusal: usize, at: usize) -> $answer {
+                $answer { refusal, at, ..$answer::default() }
+            }
+        }
+    )*};
 }
+
+refused! { Loaded Located Placed Owned }
 
 mod exports {
-    use super::{Loaded, Located};
+    use super::{Loaded, Located, Owned, Placed};
 
     extern "C" {
         pub fn vcs_load(count: usize, rw: *const u8, rw_length: usize, ro: *const u8, ro_length: usize) -> Loaded;
@@ -52,6 +80,29 @@ mod exports {
             ro_length: usize,
             entry: usize,
         ) -> Located;
+
+        pub fn vcs_place(
+            count: usize,
+            rw: *const u8,
+            rw_length: usize,
+            ro: *const u8,
+            ro_length: usize,
+            set: usize,
+            entry: usize,
+            part: usize,
+            lane: usize,
+        ) -> Placed;
+
+        pub fn vcs_owner(
+            count: usize,
+            rw: *const u8,
+            rw_length: usize,
+            ro: *const u8,
+            ro_length: usize,
+            set: usize,
+            offset: usize,
+            bit: usize,
+        ) -> Owned;
     }
 }
 
@@ -65,4 +116,14 @@ pub fn load(count: usize, rw: &[u8], ro: &[u8]) -> Loaded {
 /// The entry call.
 pub fn locate(count: usize, rw: &[u8], ro: &[u8], entry: usize) -> Located {
     unsafe { exports::vcs_entry(count, rw.as_ptr(), rw.len(), ro.as_ptr(), ro.len(), entry) }
+}
+
+/// The place call.
+pub fn place(count: usize, rw: &[u8], ro: &[u8], set: usize, entry: usize, part: usize, lane: usize) -> Placed {
+    unsafe { exports::vcs_place(count, rw.as_ptr(), rw.len(), ro.as_ptr(), ro.len(), set, entry, part, lane) }
+}
+
+/// The owner call.
+pub fn owner(count: usize, rw: &[u8], ro: &[u8], set: usize, offset: usize, bit: usize) -> Owned {
+    unsafe { exports::vcs_owner(count, rw.as_ptr(), rw.len(), ro.as_ptr(), ro.len(), set, offset, bit) }
 }

@@ -1,6 +1,6 @@
 //! Maps whose answers are known from document 01 alone: its examples, the agreement's appendices, the limits of each check.
 
-use crate::calls::{entry, load};
+use crate::calls;
 use crate::case::Case;
 use crate::engine::Loaded;
 use crate::report::Report;
@@ -37,10 +37,7 @@ pub fn compare(report: &mut Report) {
         assert_eq!(raw, hex(text), "a file of examples/ and its hex text differ");
     }
     let mut expect = |name: &str, count: usize, rw: &[u8], ro: &[u8], known: Loaded| {
-        let case = Case { count, rw, ro };
-        if let Some(loaded) = load::compare(report, &case, &[(name, known)]) {
-            entry::compare(report, &case, &loaded);
-        }
+        calls::compare_all(report, &Case { count, rw, ro }, &[(name, known)]);
     };
     let map = MAP_INPUT;
     expect("the map program's map", map[0].into(), &map[2..17], &[], accepted(3, 0, 4, 4));

@@ -27,6 +27,9 @@ use strings::{Flat, RW};
 /// Generated maps, beside the fixed ones and the sweep.
 const MAPS: u64 = 200_000;
 
+/// Accepted maps, and as many damaged ones, on which every field and bit is asked for.
+const WHOLE_MAPS: u64 = 300;
+
 fn main() -> ExitCode {
     let words: Vec<String> = std::env::args().skip(1).collect();
     match words.iter().map(String::as_str).collect::<Vec<_>>()[..] {
@@ -51,12 +54,18 @@ fn compare() -> bool {
     let mut report = Report::new(&calls);
 
     fixed::compare(&mut report);
-    sweep::sweep(|map| calls::compare(&mut report, &map.case()));
+    for seed in 0..WHOLE_MAPS {
+        calls::compare_all(&mut report, &valid::valid(&Random::new(seed)).flat().case(), &[]);
+        calls::compare_all(&mut report, &damaged::damaged(&Random::new(seed)).case(), &[]);
+    }
+    let random = Random::new(0);
+    sweep::sweep(|map| calls::compare(&mut report, &map.case(), &random));
     for seed in 0..MAPS {
-        let map = any_map(&Random::new(seed));
-        calls::compare(&mut report, &map.case());
+        let random = Random::new(seed);
+        let map = any_map(&random);
+        calls::compare(&mut report, &map.case(), &random);
         if seed % 16 == 0 {
-            shared_buffer(&mut report, &map);
+            shared_buffer(&mut report, &map, &random);
         }
     }
     if program::exists() {
@@ -79,9 +88,9 @@ fn any_map(random: &Random) -> Flat {
 }
 
 /// Both strings lent from one buffer: the same part twice, and a part that begins inside the other.
-fn shared_buffer(report: &mut Report, map: &Flat) {
+fn shared_buffer(report: &mut Report, map: &Flat, random: &Random) {
     let buffer = &map.strings[RW];
-    calls::compare(report, &Case { count: map.count, rw: buffer, ro: buffer });
+    calls::compare(report, &Case { count: map.count, rw: buffer, ro: buffer }, random);
     let middle = buffer.len() / 2;
-    calls::compare(report, &Case { count: map.count, rw: buffer, ro: &buffer[middle..] });
+    calls::compare(report, &Case { count: map.count, rw: buffer, ro: &buffer[middle..] }, random);
 }

@@ -2,6 +2,9 @@
 
 use std::cell::Cell;
 
+/// Numbers that leave nothing in their low 8, 16, 32 or 60 bits.
+const FAR: [usize; 6] = [1 << 8, 1 << 16, 1 << 32, 1 << 60, 1 << 61, 1 << 63];
+
 pub struct Random(Cell<u64>);
 
 impl Random {
@@ -25,6 +28,17 @@ impl Random {
     /// A number from `low` to `high`, both in.
     pub fn within(&self, low: usize, high: usize) -> usize {
         low + self.below(high - low + 1)
+    }
+
+    /// Most often a number below `end`; else the first ones from it on, or one so far out that with fewer bits, or
+    /// times 8, it is a number about `end` again.
+    pub fn about(&self, end: usize) -> usize {
+        match self.below(32) {
+            0 => end + self.below(2),
+            1 => self.pick(&FAR) + self.below(end + 2),
+            2 => usize::MAX - self.below(end + 2),
+            _ => self.below(end.max(1)),
+        }
     }
 
     pub fn byte(&self) -> u8 {

@@ -21,6 +21,7 @@ use Rattle.rules.proofs.Walks.{load-accepted, total-append, map-good}
 use Rattle.rules.proofs.PlaceOwner.{both-ways}
 use Rattle.rules.proofs.Fills.{Stands, Filled, filled-nth, stands-start, rw-filled, ro-filled, rw-fills, ro-fills}
 
+-- an entry says what the bytes at its start say, and its ID, Length, mask and MemoryLength are there
 pub record Head (a : ℕ) (s : List ℕ) (e : Entry) : Type 0 where
   pub says : e ≡ entryAt a s (record { at = e .start; number = 0; sum = e .offset; media = false })
   pub room : e .start + 2 + a < length s

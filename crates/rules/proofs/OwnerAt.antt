@@ -5,11 +5,11 @@ use native.Mathlib.Nat.{mul-assoc, div-lt-iff-lt-mul, div-mul-le-self, lt-div-mu
 use native.Mathlib.Omega.{arith}
 use native.Mathlib.Decide.{decLt}
 use lib.Arith.{digits-lt}
-use lib.Dec.{T, ltb, leb, eqb, lt→ltb, le→leb}
+use lib.Dec.{leb, eqb, lt→ltb, le→leb}
 use borrow.Author.Tests.{eq-eqb}
 use Rattle.rules.specs.Words.{ownedBy, gap}
 use Rattle.rules.specs.Load.{Map}
-use Rattle.rules.specs.Place.{entry, partsOf, widthOf, heldBy, laneByte, laneBit, fieldByte, fieldBit, covers, ownerOf}
+use Rattle.rules.specs.Place.{entry, partsOf, widthOf, heldBy, laneByte, laneBit, fieldByte, fieldBit, ownerOf}
 use Rattle.rules.proofs.Tests.{both-true, from-true}
 use Rattle.rules.proofs.Lanes.{Width, width-pos, full, lane-at-byte, lane-at-bit}
 use Rattle.rules.proofs.Good.{GoodMap, entries-apart}
@@ -28,19 +28,19 @@ module _ (w n q : ℕ) (h : Width w) (ln : n < w) (lq : q < 8) where
       ∙ ap (λ x. (x + q) / w) (sym (mul-assoc n (h .lanes) w))
       ∙ mul-add-div-right (width-pos w h) (n * h .lanes) q
 
-  pub lane-top : (n * 8 + q) / w < 8
+  lane-top : (n * 8 + q) / w < 8
   lane-top = let t : n * h .lanes + q / w < w * h .lanes = digits-lt ln in-lane in omega (arith, bits-lane, full w h)
 
-  pub lane-byte-is : laneByte w (suc ((n * 8 + q) / w)) ≡ n
+  lane-byte-is : laneByte w (suc ((n * 8 + q) / w)) ≡ n
   lane-byte-is = ap (λ j. laneByte w (suc j)) bits-lane ∙ lane-at-byte w h n (q / w) in-lane
 
   lane-bit-is : laneBit w (suc ((n * 8 + q) / w)) ≡ q / w * w
   lane-bit-is = ap (λ j. laneBit w (suc j)) bits-lane ∙ lane-at-bit w h n (q / w) in-lane
 
-  pub lane-from : laneBit w (suc ((n * 8 + q) / w)) ≤ q
+  lane-from : laneBit w (suc ((n * 8 + q) / w)) ≤ q
   lane-from = rw lane-bit-is (div-mul-le-self q w)
 
-  pub lane-to : q < laneBit w (suc ((n * 8 + q) / w)) + w
+  lane-to : q < laneBit w (suc ((n * 8 + q) / w)) + w
   lane-to = rw lane-bit-is (lt-div-mul-add (width-pos w h))
 
 module _ (m : Map) (g : GoodMap m) (s k q : ℕ) (hs : s < 3) (hq : q < 8) where

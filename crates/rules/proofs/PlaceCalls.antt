@@ -1,5 +1,5 @@
 -- The laws of `placeOf` and `ownerCall` that a function's proof cites, one for each way out, in 01's order.
-use mathlib.Core.Path.{_≡_, refl, sym, ap, _∙_}
+use mathlib.Core.Path.{_≡_, refl, sym, _∙_}
 use mathlib.Core.Bool.{Bool, true, false, _&&_, not, cond}
 use mathlib.Core.List.{List, [], _∷_}
 use Prim.Native.Nat.{ℕ, _+_, _≤_, _<_}
@@ -7,11 +7,11 @@ use native.Mathlib.Omega.{arith}
 use lib.ListN.{length}
 use lib.Dec.{ltb}
 use borrow.Author.Tests.{ltb-true, ltb-false, lt-ltb, le-ltb}
-use Rattle.rules.specs.Words.{Refusal, plain, Loaded, accepted, rejected, read, Placed, placedAt, notPlaced, Owned, ownedBy, gap, notOwned}
+use Rattle.rules.specs.Words.{Refusal, plain, Loaded, accepted, rejected, read, placedAt, notPlaced, notOwned}
 use Rattle.rules.specs.Load.{Map, loadOf, mapOf}
 use Rattle.rules.specs.Place.{entry, partsOf, isSet, isStaged, isRW, isLane, heldBy, lengthOf, fieldByte, fieldBit, ownerOf}
-use Rattle.rules.specs.Refuse.{Verdict, passes, refuses, refuseIf, firstOf, exists, misdirected, unaccepted, judge}
-use Rattle.rules.specs.Beside.{placed, placeOf, owned, isBit, ownerCall, entryVerdict}
+use Rattle.rules.specs.Refuse.{refuses, refuseIf, firstOf, exists, misdirected, unaccepted, judge}
+use Rattle.rules.specs.Beside.{placed, placeOf, isBit, ownerCall, entryVerdict}
 use Rattle.rules.specs.Demands.{Accepted}
 use Rattle.rules.proofs.Tests.{and-no}
 use Rattle.rules.proofs.Good.{GoodMap}

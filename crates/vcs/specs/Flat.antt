@@ -5,11 +5,17 @@ use Rattle.rules.specs.declared.Refusal.{Refusal}
 use Rattle.rules.specs.declared.Refusal.the-variants.{Plain as plain, AtEntry as atEntry, AtLane as atLane}
 use Rattle.rules.specs.declared.Loaded.{Loaded}
 use Rattle.rules.specs.declared.Loaded.the-variants.{Accepted as accepted, Refused as rejected}
+use Rattle.rules.specs.declared.Placed.{Placed}
+use Rattle.rules.specs.declared.Placed.the-variants.{At as placedAt, Refused as notPlaced}
+use Rattle.rules.specs.declared.Owned.{Owned}
+use Rattle.rules.specs.declared.Owned.the-variants.{Field as ownedBy, Gap as noOwner, Refused as notOwned}
 use Rattle.descriptor.specs.declared.Located.{Located}
 use Rattle.descriptor.specs.declared.Located.the-variants.{At as at, Refused as nowhere}
 use Rattle.vcs.specs.declared.Reason.{Reason}
 use Rattle.vcs.specs.declared.FlatLoaded.{FlatLoaded}
 use Rattle.vcs.specs.declared.FlatEntry.{FlatEntry}
+use Rattle.vcs.specs.declared.FlatPlaced.{FlatPlaced}
+use Rattle.vcs.specs.declared.FlatOwned.{FlatOwned}
 
 -- the number of a refusal and its extra
 abbrev pub reasonOf : Refusal → Reason
@@ -26,3 +32,12 @@ abbrev pub flatEntry : Located → FlatEntry
 flatEntry (at ro s l o) = record { refusal = 0; at = 0; string = cond ro 1 0; start = s; length = l; offset = o }
 flatEntry (nowhere r) =
     record { refusal = reasonOf r .number; at = reasonOf r .at; string = 0; start = 0; length = 0; offset = 0 }
+
+abbrev pub flatPlaced : Placed → FlatPlaced
+flatPlaced (placedAt k q) = record { refusal = 0; at = 0; byte = k; bit = q }
+flatPlaced (notPlaced r) = record { refusal = reasonOf r .number; at = reasonOf r .at; byte = 0; bit = 0 }
+
+abbrev pub flatOwned : Owned → FlatOwned
+flatOwned (ownedBy e p i) = record { refusal = 0; at = 0; gap = 0; entry = e; part = p; lane = i }
+flatOwned noOwner = record { refusal = 0; at = 0; gap = 1; entry = 0; part = 0; lane = 0 }
+flatOwned (notOwned r) = record { refusal = reasonOf r .number; at = reasonOf r .at; gap = 0; entry = 0; part = 0; lane = 0 }

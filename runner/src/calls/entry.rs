@@ -68,7 +68,7 @@ fn of_second<'a>(case: &Case<'a>, entries: &[second::EntryInfo], entry: usize) -
 pub fn compare(report: &mut Report, case: &Case, loaded: &Loaded) {
     let entries = second::entries(case.count, case.rw, case.ro).unwrap_or_default();
     let near = match loaded.refusal {
-        0 => 0..loaded.rw_count + loaded.ro_count + 2,
+        0 => 0..loaded.entries() + 2,
         _ => loaded.at.saturating_sub(1)..loaded.at + 2,
     };
     let far = FAR[(case.rw.len() + case.ro.len()) % FAR.len()];

@@ -2,18 +2,38 @@
 
 pub mod entry;
 pub mod load;
+pub mod owner;
+pub mod place;
 
 use crate::case::Case;
+use crate::engine::Loaded;
+use crate::random::Random;
 use crate::report::Report;
 use crate::tally::Row;
 
 /// Every call, in the order of the table that is printed.
-pub const CALLS: [&Row; 2] = [&load::CALL, &entry::CALL];
+pub const CALLS: [&Row; 6] = [&load::CALL, &entry::CALL, &place::CALL, &owner::CALL, &owner::FIELD, &owner::GAP];
 
-/// Compares every call on one map.
-pub fn compare(report: &mut Report, case: &Case) {
+/// Random place and owner calls on one map.
+const FEW: usize = 3;
+
+/// Compares every call on one map: place and owner for a few random numbers.
+pub fn compare(report: &mut Report, case: &Case, random: &Random) {
     if let Some(loaded) = load::compare(report, case, &[]) {
         entry::compare(report, case, &loaded);
+        for _ in 0..FEW {
+            place::compare_one(report, case, &loaded, random);
+            owner::compare_one(report, case, &loaded, random);
+        }
+    }
+}
+
+/// Compares every call on one map: the load also with answers that are known, place and owner for every field and bit.
+pub fn compare_all(report: &mut Report, case: &Case, known: &[(&str, Loaded)]) {
+    if let Some(loaded) = load::compare(report, case, known) {
+        entry::compare(report, case, &loaded);
+        place::compare_all(report, case, &loaded);
+        owner::compare_all(report, case, &loaded);
     }
 }
 

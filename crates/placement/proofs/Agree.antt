@@ -1,0 +1,19 @@
+-- DEMAND 2 of the code: `place` answers `placeOf` and `owner` answers `ownerCall` (src/lib.rt), and these agree both ways.
+use mathlib.Core.Path.{_≡_}
+use mathlib.Core.Logic.{_↔_}
+use mathlib.Core.List.{List}
+use Prim.Native.Nat.{ℕ}
+use Rattle.rules.specs.declared.Placed.the-variants.{At as placedAt}
+use Rattle.rules.specs.declared.Owned.the-variants.{Field as ownedBy}
+use Rattle.rules.specs.Beside.{placeOf, ownerCall}
+use Rattle.rules.specs.Demands.{Accepted, PlaceCovers}
+use Rattle.rules.proofs.Demands.{demand2}
+
+module _ (count : ℕ) (rw ro : List ℕ) (ok : Accepted count rw ro) where
+  -- a bit's owner is the field whose place covers it, and no other
+  pub owner-of-place : (s k q e p i : ℕ) → (ownerCall count rw ro s k q ≡ ownedBy e p i) ↔ PlaceCovers count rw ro s e p i k q
+  owner-of-place = demand2 count rw ro ok .owner-is
+
+  -- a field owns the place that it is given
+  pub place-is-owned : (s e p i k q : ℕ) → placeOf count rw ro s e p i ≡ placedAt k q → ownerCall count rw ro s k q ≡ ownedBy e p i
+  place-is-owned = demand2 count rw ro ok .place-owned

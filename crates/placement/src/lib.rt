@@ -1,0 +1,88 @@
+// Placing: where a field lies, and whose a bit is.
+ghost use mathlib.Core.Path.{_≡_};
+ghost use Prim.Native.Nat.{_≤_, _<_};
+ghost use Rattle.rules.specs.Beside.{placeOf, ownerCall};
+ghost use Rattle.placement.specs.Owner.{fieldIn};
+use descriptor::Covered;
+use descriptor::Found;
+use descriptor::cover;
+use descriptor::find;
+use descriptor::shape_of;
+use rules::Owned;
+use rules::Placed;
+use rules::Refusal;
+
+// Place: a field's byte in a set and its lowest bit there, refused as read is.
+pub fn place(
+    count: usize,
+    rw: &[u8],
+    ro: &[u8],
+    set: usize,
+    entry: usize,
+    part: usize,
+    lane: usize,
+) -> Placed
+    ensures { λ r. ⌜ r ≡ placeOf count (now (rw .entry)) (now (ro .entry)) set entry part lane ⌝ }
+{
+    let found = find(count, rw, ro, entry);
+    match found {
+        Found::Refused(r) => Placed::Refused(r),
+        Found::In {
+            ro: in_ro,
+            entry: e,
+        } => {
+            let shape = shape_of(e.id);
+            if !((set < 3) & ((part < shape.parts) & ((1 <= lane) & (lane <= 8)))) {
+                return Placed::Refused(Refusal::Plain(10));
+            }
+            if (set < 2) & in_ro {
+                return Placed::Refused(Refusal::Plain(11));
+            }
+            let first = (lane - 1) * shape.width;
+            Placed::At {
+                byte: e.offset + part * shape.width + first / 8,
+                bit: first % 8,
+            }
+        }
+    }
+}
+
+// The field that has a bit of an entry's space, counted from its offset: a part's bits in a row, W to a lane.
+fn field_in(number: usize, id: usize, byte: usize, bit: usize) -> Owned
+    requires { ⌜ (byte ≤ 256) × (bit < 8) ⌝ }
+    ensures { λ r. ⌜ r ≡ fieldIn number id byte bit ⌝ }
+{
+    let shape = shape_of(id);
+    let width = shape.width;
+    if !(byte < shape.parts * width) {
+        return Owned::Gap;
+    }
+    let bits = byte % width * 8 + bit;
+    Owned::Field {
+        entry: number,
+        part: byte / width,
+        lane: bits / width + 1,
+    }
+}
+
+// Owner: the field that a bit of a set belongs to, or gap.
+pub fn owner(count: usize, rw: &[u8], ro: &[u8], set: usize, offset: usize, bit: usize) -> Owned
+    ensures { λ r. ⌜ r ≡ ownerCall count (now (rw .entry)) (now (ro .entry)) set offset bit ⌝ }
+{
+    let covered = cover(count, rw, ro, offset);
+    match covered {
+        Covered::Refused(r) => Owned::Refused(r),
+        Covered::Nothing => Owned::Refused(Refusal::Plain(10)),
+        Covered::By {
+            ro: in_ro,
+            number,
+            id,
+            offset: start,
+        } => {
+            if !((set < 3) & (!((set < 2) & in_ro) & (bit < 8))) {
+                return Owned::Refused(Refusal::Plain(10));
+            }
+            field_in(number, id, offset - start, bit)
+        }
+    }
+}
