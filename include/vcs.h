@@ -1,9 +1,10 @@
 /* The versatile control set engine: C interface of libvcs.a.
 
    Strings are lent as a pointer and a length; NULL with length 0 is an empty string. No call changes a byte of a string.
+   A bank is lent likewise, of 784 bytes or more; no call changes a byte beyond 784, and a refused call changes none.
    Every number may have any value: what doesn't exist is refused. In an answer, `refusal` is 0 if the call is accepted,
    otherwise document 01's number; `at` is then the entry that 1 to 7 name, or the lane that 13 and 14 name, else 0. All
-   other members are 0 in a refused answer. */
+   other members are 0 in a refused answer. The library needs `memset` from the C library, nothing else. */
 #ifndef VCS_H
 #define VCS_H
 
@@ -52,6 +53,13 @@ typedef struct {
     size_t lane;
 } vcs_owned;
 
+/* What a call on a bank says: yes if all are 0, or the number that it answers. */
+typedef struct {
+    size_t refusal;
+    size_t at;
+    int64_t number;
+} vcs_answer;
+
 /* The load: the check of both strings. Refusals 9, 1 to 7. */
 vcs_loaded vcs_load(size_t count, const uint8_t *rw, size_t rw_length, const uint8_t *ro, size_t ro_length);
 
@@ -66,6 +74,38 @@ vcs_placed vcs_place(size_t count, const uint8_t *rw, size_t rw_length, const ui
 /* The owner call: bit 0 to 7 of the byte at an offset of a set. Refusals 9, 1 to 7, 10. */
 vcs_owned vcs_owner(size_t count, const uint8_t *rw, size_t rw_length, const uint8_t *ro, size_t ro_length, size_t set,
                     size_t offset, size_t bit);
+
+/* Fresh: clears the bank, and answers as the load does. Refusals 9, 8, 1 to 7. */
+vcs_loaded vcs_fresh(size_t count, const uint8_t *rw, size_t rw_length, const uint8_t *ro, size_t ro_length,
+                     uint8_t *bank, size_t bank_length);
+
+/* Select: stores an app, 0 to count, as AppSel of a lane (1 to 8) of staged set 0 or 1. Refusals 9, 8, 1 to 7, 10 to 12. */
+vcs_answer vcs_select(size_t count, const uint8_t *rw, size_t rw_length, const uint8_t *ro, size_t ro_length,
+                      uint8_t *bank, size_t bank_length, size_t set, size_t lane, size_t app);
+
+/* Write: stores an accepted value in a field of an RW entry in staged set 0 or 1. Refusals 9, 8, 1 to 7, 10 to 12. */
+vcs_answer vcs_write(size_t count, const uint8_t *rw, size_t rw_length, const uint8_t *ro, size_t ro_length,
+                     uint8_t *bank, size_t bank_length, size_t set, size_t entry, size_t part, size_t lane, int64_t value);
+
+/* Read: the number of a field in set 0, 1 or 2. Refusals 9, 8, 1 to 7, 10, 11. */
+vcs_answer vcs_read(size_t count, const uint8_t *rw, size_t rw_length, const uint8_t *ro, size_t ro_length,
+                    const uint8_t *bank, size_t bank_length, size_t set, size_t entry, size_t part, size_t lane);
+
+/* Publish: stores an accepted value in a field of an RO entry in the active set. Refusals 9, 8, 1 to 7, 10 to 12. */
+vcs_answer vcs_publish(size_t count, const uint8_t *rw, size_t rw_length, const uint8_t *ro, size_t ro_length,
+                       uint8_t *bank, size_t bank_length, size_t entry, size_t part, size_t lane, int64_t value);
+
+/* Byte write: stores a byte of staged set 0 or 1, any value, with its gaps 0. Refusals 9, 8, 1 to 7, 10, 11. */
+vcs_answer vcs_byte_write(size_t count, const uint8_t *rw, size_t rw_length, const uint8_t *ro, size_t ro_length,
+                          uint8_t *bank, size_t bank_length, size_t set, size_t offset, uint8_t byte);
+
+/* Byte read: the byte at an offset of set 0, 1 or 2, with its gaps 0. Refusals 9, 8, 1 to 7, 10. */
+vcs_answer vcs_byte_read(size_t count, const uint8_t *rw, size_t rw_length, const uint8_t *ro, size_t ro_length,
+                         const uint8_t *bank, size_t bank_length, size_t set, size_t offset);
+
+/* Weight: the active number of a 12h field, in thousandths. Refusals 9, 8, 1 to 7, 10. */
+vcs_answer vcs_weight(size_t count, const uint8_t *rw, size_t rw_length, const uint8_t *ro, size_t ro_length,
+                      const uint8_t *bank, size_t bank_length, size_t entry, size_t lane);
 
 #ifdef __cplusplus
 }

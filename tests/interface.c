@@ -39,6 +39,12 @@ AT(vcs_owned, entry, 3);
 AT(vcs_owned, part, 4);
 AT(vcs_owned, lane, 5);
 
+_Static_assert(sizeof(vcs_answer) == 3 * sizeof(size_t), "vcs_answer has three numbers");
+AT(vcs_answer, refusal, 0);
+AT(vcs_answer, at, 1);
+_Static_assert(offsetof(vcs_answer, number) == 2 * sizeof(size_t), "vcs_answer.number stands at number 2");
+_Static_assert(_Generic(((vcs_answer *)0)->number, int64_t: 1, default: 0), "vcs_answer.number is an int64_t");
+
 _Static_assert(_Generic(&vcs_load,
     vcs_loaded (*)(size_t, const uint8_t *, size_t, const uint8_t *, size_t): 1, default: 0), "vcs_load");
 _Static_assert(_Generic(&vcs_entry,
@@ -49,6 +55,33 @@ _Static_assert(_Generic(&vcs_place,
 _Static_assert(_Generic(&vcs_owner,
     vcs_owned (*)(size_t, const uint8_t *, size_t, const uint8_t *, size_t, size_t, size_t, size_t): 1,
     default: 0), "vcs_owner");
+_Static_assert(_Generic(&vcs_fresh,
+    vcs_loaded (*)(size_t, const uint8_t *, size_t, const uint8_t *, size_t, uint8_t *, size_t): 1,
+    default: 0), "vcs_fresh");
+_Static_assert(_Generic(&vcs_select,
+    vcs_answer (*)(size_t, const uint8_t *, size_t, const uint8_t *, size_t, uint8_t *, size_t, size_t, size_t, size_t): 1,
+    default: 0), "vcs_select");
+_Static_assert(_Generic(&vcs_write,
+    vcs_answer (*)(size_t, const uint8_t *, size_t, const uint8_t *, size_t, uint8_t *, size_t, size_t, size_t, size_t,
+                   size_t, int64_t): 1,
+    default: 0), "vcs_write");
+_Static_assert(_Generic(&vcs_read,
+    vcs_answer (*)(size_t, const uint8_t *, size_t, const uint8_t *, size_t, const uint8_t *, size_t, size_t, size_t,
+                   size_t, size_t): 1,
+    default: 0), "vcs_read");
+_Static_assert(_Generic(&vcs_publish,
+    vcs_answer (*)(size_t, const uint8_t *, size_t, const uint8_t *, size_t, uint8_t *, size_t, size_t, size_t, size_t,
+                   int64_t): 1,
+    default: 0), "vcs_publish");
+_Static_assert(_Generic(&vcs_byte_write,
+    vcs_answer (*)(size_t, const uint8_t *, size_t, const uint8_t *, size_t, uint8_t *, size_t, size_t, size_t, uint8_t): 1,
+    default: 0), "vcs_byte_write");
+_Static_assert(_Generic(&vcs_byte_read,
+    vcs_answer (*)(size_t, const uint8_t *, size_t, const uint8_t *, size_t, const uint8_t *, size_t, size_t, size_t): 1,
+    default: 0), "vcs_byte_read");
+_Static_assert(_Generic(&vcs_weight,
+    vcs_answer (*)(size_t, const uint8_t *, size_t, const uint8_t *, size_t, const uint8_t *, size_t, size_t, size_t): 1,
+    default: 0), "vcs_weight");
 
 static int checks = 0;
 
@@ -139,6 +172,95 @@ static void owner(const char *name, map m, size_t set, size_t offset, size_t bit
 {
     vcs_owned answer = vcs_owner(LENT(m), set, offset, bit);
     check(name, m, &answer, sizeof answer, expected);
+}
+
+/* The lent bank stands at the start of `bank`. A test first gives `wanted` the bytes that the call must change: every
+   other byte must be kept, those behind the lent ones too. */
+static uint8_t bank[800], wanted[sizeof bank];
+
+/* A bank as a call takes it; one of no bytes is NULL. */
+#define BANK(length) ((length) == 0 ? NULL : bank), (length)
+
+/* The answer that says yes, one with a number, and a refusal. */
+#define YES NUMBERS(0)
+#define NUMBER(n) NUMBERS(0, 0, (size_t)(int64_t)(n))
+#define REFUSED(number, at) NUMBERS(number, at)
+
+static void fill(uint8_t byte)
+{
+    memset(bank, byte, sizeof bank);
+    memset(wanted, byte, sizeof wanted);
+}
+
+/* Puts a byte into the bank before a call. */
+static void put(size_t at, uint8_t byte)
+{
+    bank[at] = wanted[at] = byte;
+}
+
+/* As check, and the bank is as wanted. */
+static void check_bank(const char *name, map m, const void *answer, size_t size, const size_t expected[6])
+{
+    check(name, m, answer, size, expected);
+    checks++;
+    for (size_t i = 0; i < sizeof bank; i++) {
+        if (bank[i] != wanted[i]) {
+            printf("interface: %s: byte %zu of the bank is %02Xh, not %02Xh\n", name, i, bank[i], wanted[i]);
+            exit(1);
+        }
+    }
+}
+
+static void fresh(const char *name, map m, size_t length, const size_t expected[6])
+{
+    vcs_loaded answer = vcs_fresh(LENT(m), BANK(length));
+    check_bank(name, m, &answer, sizeof answer, expected);
+}
+
+static void choose(const char *name, map m, size_t length, size_t set, size_t lane, size_t app, const size_t expected[6])
+{
+    vcs_answer answer = vcs_select(LENT(m), BANK(length), set, lane, app);
+    check_bank(name, m, &answer, sizeof answer, expected);
+}
+
+static void store(const char *name, map m, size_t length, size_t set, size_t number, size_t part, size_t lane,
+                  int64_t value, const size_t expected[6])
+{
+    vcs_answer answer = vcs_write(LENT(m), BANK(length), set, number, part, lane, value);
+    check_bank(name, m, &answer, sizeof answer, expected);
+}
+
+static void fetch(const char *name, map m, size_t length, size_t set, size_t number, size_t part, size_t lane,
+                  const size_t expected[6])
+{
+    vcs_answer answer = vcs_read(LENT(m), BANK(length), set, number, part, lane);
+    check_bank(name, m, &answer, sizeof answer, expected);
+}
+
+static void publish(const char *name, map m, size_t length, size_t number, size_t part, size_t lane, int64_t value,
+                    const size_t expected[6])
+{
+    vcs_answer answer = vcs_publish(LENT(m), BANK(length), number, part, lane, value);
+    check_bank(name, m, &answer, sizeof answer, expected);
+}
+
+static void store_byte(const char *name, map m, size_t length, size_t set, size_t offset, uint8_t byte,
+                       const size_t expected[6])
+{
+    vcs_answer answer = vcs_byte_write(LENT(m), BANK(length), set, offset, byte);
+    check_bank(name, m, &answer, sizeof answer, expected);
+}
+
+static void fetch_byte(const char *name, map m, size_t length, size_t set, size_t offset, const size_t expected[6])
+{
+    vcs_answer answer = vcs_byte_read(LENT(m), BANK(length), set, offset);
+    check_bank(name, m, &answer, sizeof answer, expected);
+}
+
+static void weigh(const char *name, map m, size_t length, size_t number, size_t lane, const size_t expected[6])
+{
+    vcs_answer answer = vcs_weight(LENT(m), BANK(length), number, lane);
+    check_bank(name, m, &answer, sizeof answer, expected);
 }
 
 #define BYTES(...) (const uint8_t[]){__VA_ARGS__}, sizeof((const uint8_t[]){__VA_ARGS__})
@@ -263,13 +385,16 @@ static void owners(void)
     owner("1 before 10", m, 3, 29, 8, NUMBERS(1, 4, 0, 0, 0, 0));
 }
 
+/* 02h, 03h at offset 1, 04h at 3 with mask 1FFFh, 00h that reserves 2, 07h at 9 with mask 0FFFh. */
+#define THE_SETTINGS \
+    {4, \
+     BYTES(0x02, 0x05, 0x0F, 0x01, 0x00, 0x03, 0x05, 0x0F, 0x02, 0x00, 0x04, 0x07, 0x0F, 0x04, 0x00, 0x1F, 0xFF, 0x00, \
+           0x04, 0x00, 0x02, 0x07, 0x08, 0x0F, 0x08, 0x00, 0xFF, 0x0F, 0xFF), \
+     NONE}
+
 static void settings(void)
 {
-    /* 02h, 03h at offset 1, 04h at 3, 00h that reserves 2, 07h at 9. */
-    map m = {4,
-             BYTES(0x02, 0x05, 0x0F, 0x01, 0x00, 0x03, 0x05, 0x0F, 0x02, 0x00, 0x04, 0x07, 0x0F, 0x04, 0x00, 0x1F, 0xFF,
-                   0x00, 0x04, 0x00, 0x02, 0x07, 0x08, 0x0F, 0x08, 0x00, 0xFF, 0x0F, 0xFF),
-             NONE};
+    map m = THE_SETTINGS;
     place("P2", m, 0, 1, 0, 5, NUMBERS(0, 0, 2, 0));
     place("P3", m, 1, 2, 0, 2, NUMBERS(0, 0, 3, 4));
     place("P4", m, 2, 2, 0, 7, NUMBERS(0, 0, 6, 0));
@@ -280,6 +405,303 @@ static void settings(void)
     owner("P5", m, 0, 13, 0, NUMBERS(0, 0, 0, 4, 1, 1));
 }
 
+static void fresh_banks(void)
+{
+    map m = THE_MAP;
+    fill(0xFF);
+    fresh("no bank", m, 0, REFUSED(8, 0));
+    fresh("a bank of 783 bytes", m, 783, REFUSED(8, 0));
+    m.count = 16;
+    fresh("9 before 8", m, 783, REFUSED(9, 0));
+    m.count = 4;
+    m.ro_length = 6;
+    fresh("8 before 1", m, 783, REFUSED(8, 0));
+    fresh("a bad string", m, 784, REFUSED(1, 4));
+    m = (map)THE_MAP;
+    memset(wanted, 0, 784);
+    fresh("a bank of 784 bytes", m, 784, NUMBERS(0, 0, 3, 2, 4, 29));
+    fill(0xFF);
+    memset(wanted, 0, 784);
+    fresh("the 785th byte is kept", m, 785, NUMBERS(0, 0, 3, 2, 4, 29));
+    fill(0x5A);
+    memset(wanted, 0, 784);
+    fresh("no string", (map){15, NONE, NONE}, sizeof bank, NUMBERS(0));
+}
+
+static void selects(void)
+{
+    map m = THE_MAP;
+    fill(0xFF);
+    wanted[768] = 4;
+    choose("set 0, lane 1", m, 784, 0, 1, 4, YES);
+    wanted[783] = 0;
+    choose("set 1, lane 8, app 0", m, 784, 1, 8, 0, YES);
+    wanted[776] = 1;
+    choose("set 1, lane 1", m, 785, 1, 1, 1, YES);
+    choose("app 5 of 4", m, 784, 0, 1, 5, REFUSED(12, 0));
+    choose("app 257", m, 784, 0, 1, 257, REFUSED(12, 0));
+    choose("the largest app", m, 784, 0, 1, SIZE_MAX, REFUSED(12, 0));
+    choose("select on set 2", m, 784, 2, 1, 1, REFUSED(11, 0));
+    choose("11 before 12", m, 784, 2, 8, 5, REFUSED(11, 0));
+    choose("10 before 11", m, 784, 2, 9, 1, REFUSED(10, 0));
+    choose("set 3", m, 784, 3, 1, 1, REFUSED(10, 0));
+    choose("lane 0", m, 784, 0, 0, 1, REFUSED(10, 0));
+    choose("lane 9", m, 784, 0, 9, 1, REFUSED(10, 0));
+    choose("lane 2^32 + 1", m, 784, 1, ((size_t)1 << 32) + 1, 1, REFUSED(10, 0));
+    choose("select, 783 bytes", m, 783, 0, 1, 1, REFUSED(8, 0));
+    choose("select, no bank", m, 0, 3, 0, 5, REFUSED(8, 0));
+    wanted[775] = 15;
+    choose("app 15 of 15", (map){15, NONE, NONE}, 784, 0, 8, 15, YES);
+    choose("app 16 of 15", (map){15, NONE, NONE}, 784, 0, 8, 16, REFUSED(12, 0));
+    m.ro_length = 6;
+    choose("select, a bad string", m, 784, 0, 1, 1, REFUSED(1, 4));
+}
+
+static void writes(void)
+{
+    map m = THE_SETTINGS;
+    fill(0xFF);
+    wanted[0] = 0xFB;
+    store("02h, lane 3, set 0", m, 784, 0, 0, 0, 3, 0, YES);
+    wanted[256 + 2] = 0xFE;
+    store("P2, set 1", m, 784, 1, 1, 0, 5, 2, YES);
+    store("03h takes no 3", m, 784, 1, 1, 0, 5, 3, REFUSED(12, 0));
+    wanted[3] = 0xCF;
+    store("P3, P10", m, 785, 0, 2, 0, 2, 12, YES);
+    store("P10, 13", m, 784, 0, 2, 0, 2, 13, REFUSED(12, 0));
+    wanted[6] = 0xF0;
+    store("P4", m, 784, 0, 2, 0, 7, 0, YES);
+    wanted[256 + 13] = 0xFB;
+    store("P5, set 1, 11", m, 784, 1, 4, 1, 1, 11, YES);
+    store("a reserved code in the mask", m, 784, 1, 4, 1, 1, 10, REFUSED(12, 0));
+    store("a code not in the mask", m, 784, 1, 4, 1, 1, 12, REFUSED(12, 0));
+    store("-1", m, 784, 0, 0, 0, 1, -1, REFUSED(12, 0));
+    store("2^32", m, 784, 0, 0, 0, 1, (int64_t)1 << 32, REFUSED(12, 0));
+    store("the least value", m, 784, 0, 0, 0, 1, INT64_MIN, REFUSED(12, 0));
+    store("the largest value", m, 784, 0, 2, 0, 1, INT64_MAX, REFUSED(12, 0));
+    store("write on set 2", m, 784, 2, 0, 0, 1, 0, REFUSED(11, 0));
+    store("11 before 12", m, 784, 2, 0, 0, 1, 2, REFUSED(11, 0));
+    store("10 before 11", m, 784, 2, 0, 1, 1, 0, REFUSED(10, 0));
+    store("set 3", m, 784, 3, 0, 0, 1, 0, REFUSED(10, 0));
+    store("00h has no field", m, 784, 0, 3, 0, 1, 0, REFUSED(10, 0));
+    store("write, 783 bytes", m, 783, 0, 0, 0, 1, 0, REFUSED(8, 0));
+    m = (map){1, BYTES(0x08, 0x07, 0x00, 0x04, 0x00, 0xFF, 0xFF, 0x10, 0x05, 0x00, 0x08, 0x00), NONE};
+    wanted[0] = 0x3B;
+    store("P11, 3", m, 784, 0, 0, 0, 2, 3, YES);
+    store("P11, 4", m, 784, 0, 0, 0, 2, 4, REFUSED(12, 0));
+    wanted[0] = 0xFB;
+    store("P11, 15", m, 784, 0, 0, 0, 2, 15, YES);
+    wanted[256 + 4] = 128;
+    store("10h, 128", m, 784, 1, 1, 0, 1, 128, YES);
+    wanted[256 + 4] = 255;
+    store("10h, 255", m, 784, 1, 1, 0, 1, 255, YES);
+    store("10h, 256", m, 784, 1, 1, 0, 1, 256, REFUSED(12, 0));
+    m = (map)THE_MAP;
+    store("an RO entry in set 0", m, 784, 0, 3, 0, 1, 0, REFUSED(11, 0));
+    store("an RO entry in set 2", m, 784, 2, 4, 0, 1, 0, REFUSED(11, 0));
+    m.ro_length = 6;
+    store("write, a bad string", m, 784, 0, 0, 0, 1, 0, REFUSED(1, 4));
+}
+
+static void reads(void)
+{
+    map m = THE_MAP;
+    fill(0xFF);
+    fetch("02h, all ones", m, 784, 0, 0, 0, 1, NUMBER(1));
+    fetch("12h, all ones", m, 784, 2, 4, 0, 1, NUMBER(-1));
+    put(512 + 20, 0xF2);
+    fetch("P6", m, 784, 2, 4, 0, 1, NUMBER(-14));
+    put(512 + 19, 0x80);
+    fetch("P7, lower eye, lane 8", m, 785, 2, 3, 1, 8, NUMBER(-128));
+    put(512 + 11, 0x7F);
+    fetch("upper eye, lane 8", m, 784, 2, 3, 0, 8, NUMBER(127));
+    put(256 + 3, 0xF7);
+    fetch("05h, lane 4, set 1", m, 784, 1, 2, 0, 4, NUMBER(0));
+    fetch("05h, lane 4, set 0", m, 784, 0, 2, 0, 4, NUMBER(1));
+    fetch("read of 11h in set 0", m, 784, 0, 3, 0, 1, REFUSED(11, 0));
+    fetch("10 before 11", m, 784, 0, 3, 2, 1, REFUSED(10, 0));
+    fetch("set 3", m, 784, 3, 0, 0, 1, REFUSED(10, 0));
+    fetch("lane 0", m, 784, 2, 0, 0, 0, REFUSED(10, 0));
+    fetch("00h has no field", m, 784, 2, 1, 0, 1, REFUSED(10, 0));
+    fetch("read, 783 bytes", m, 783, 0, 0, 0, 1, REFUSED(8, 0));
+    fetch("read, no bank", m, 0, 3, 0, 0, 1, REFUSED(8, 0));
+    m.ro_length = 6;
+    fetch("read, a bad string", m, 784, 0, 0, 0, 1, REFUSED(1, 4));
+    m = (map)THE_SETTINGS;
+    put(3, 0xC5);
+    fetch("lane 1 in the low four bits", m, 784, 0, 2, 0, 1, NUMBER(5));
+    fetch("lane 2 in the high four bits", m, 784, 0, 2, 0, 2, NUMBER(12));
+    put(256 + 1, 0xC0);
+    fetch("a value that write doesn't take", m, 784, 1, 1, 0, 4, NUMBER(3));
+    put(512, 0xF2);
+    fetch("0Fh is unsigned", (map){1, BYTES(0x0F, 0x05, 0x00, 0x08, 0x00), NONE}, 784, 2, 0, 0, 1, NUMBER(242));
+}
+
+static void publishes(void)
+{
+    map m = THE_MAP;
+    fill(0x00);
+    wanted[512 + 20] = 0xF2;
+    publish("P6", m, 784, 4, 0, 1, -14, YES);
+    fetch("P6, read", m, 784, 2, 4, 0, 1, NUMBER(-14));
+    wanted[512 + 19] = 0x80;
+    publish("P7, lower eye, lane 8", m, 785, 3, 1, 8, -128, YES);
+    wanted[512 + 4] = 0x7F;
+    publish("upper eye, lane 1", m, 784, 3, 0, 1, 127, YES);
+    publish("128", m, 784, 3, 0, 1, 128, REFUSED(12, 0));
+    publish("-129", m, 784, 4, 0, 1, -129, REFUSED(12, 0));
+    publish("the largest value", m, 784, 4, 0, 1, INT64_MAX, REFUSED(12, 0));
+    publish("an RW entry", m, 784, 0, 0, 1, 0, REFUSED(11, 0));
+    publish("11 before 12", m, 784, 0, 0, 1, 2, REFUSED(11, 0));
+    publish("10 before 11", m, 784, 0, 1, 1, 0, REFUSED(10, 0));
+    publish("00h has no field", m, 784, 1, 0, 1, 0, REFUSED(10, 0));
+    publish("entry 5", m, 784, 5, 0, 1, 0, REFUSED(10, 0));
+    publish("lane 9", m, 784, 4, 0, 9, 0, REFUSED(10, 0));
+    publish("publish, 783 bytes", m, 783, 4, 0, 1, 0, REFUSED(8, 0));
+    m.count = 0;
+    publish("publish, count 0", m, 783, 4, 0, 1, 0, REFUSED(9, 0));
+    m.count = 4;
+    m.ro_length = 6;
+    publish("publish, a bad string", m, 784, 4, 0, 1, 0, REFUSED(1, 4));
+}
+
+/* A set of 256 bytes, all of them gaps: P12. */
+#define THE_GAPS {4, BYTES(0x00, 0x04, 0x00, 0xFF, 0x00, 0x04, 0x00, 0x01), NONE}
+
+static void byte_writes(void)
+{
+    map m = THE_MAP;
+    fill(0xFF);
+    wanted[0] = 0xA5;
+    store_byte("02h, set 0", m, 784, 0, 0, 0xA5, YES);
+    fetch("lane 1 after a byte write", m, 784, 0, 0, 0, 1, NUMBER(1));
+    fetch("lane 2 after a byte write", m, 784, 0, 0, 0, 2, NUMBER(0));
+    wanted[256 + 3] = 0;
+    store_byte("05h, set 1", m, 785, 1, 3, 0, YES);
+    wanted[256 + 1] = 0;
+    store_byte("a gap becomes 0, the next one keeps its bits", m, 784, 1, 1, 0xFF, YES);
+    store_byte("byte write on set 2", m, 784, 2, 0, 0, REFUSED(11, 0));
+    store_byte("the last byte of set 2", m, 784, 2, 28, 0, REFUSED(11, 0));
+    store_byte("10 before 11: the active length", m, 784, 2, 29, 0, REFUSED(10, 0));
+    store_byte("the staged length, set 0", m, 784, 0, 4, 0, REFUSED(10, 0));
+    store_byte("a byte of RO in set 1", m, 784, 1, 20, 0, REFUSED(10, 0));
+    store_byte("set 3", m, 784, 3, 0, 0, REFUSED(10, 0));
+    store_byte("set 2^32", m, 784, (size_t)1 << 32, 0, 0, REFUSED(10, 0));
+    store_byte("offset 256", m, 784, 0, 256, 0, REFUSED(10, 0));
+    store_byte("offset 2^32", m, 784, 0, (size_t)1 << 32, 0, REFUSED(10, 0));
+    store_byte("the largest numbers", m, 784, SIZE_MAX, SIZE_MAX, 0xFF, REFUSED(10, 0));
+    store_byte("byte write, 783 bytes", m, 783, 0, 0, 0, REFUSED(8, 0));
+    store_byte("byte write, no bank", m, 0, 3, 4, 0, REFUSED(8, 0));
+    m.count = 16;
+    store_byte("9 before 8", m, 783, 0, 0, 0, REFUSED(9, 0));
+    m.count = 4;
+    m.ro_length = 6;
+    store_byte("byte write, a bad string", m, 784, 0, 0, 0, REFUSED(1, 4));
+    store_byte("1 before 10", m, 784, 3, 4, 0, REFUSED(1, 4));
+    m = (map)THE_SETTINGS;
+    fill(0x00);
+    wanted[1] = 0xFF;
+    store_byte("03h takes 3", m, 784, 0, 1, 0xFF, YES);
+    fetch("03h, lane 4", m, 784, 0, 1, 0, 4, NUMBER(3));
+    wanted[256 + 13] = 0xCA;
+    store_byte("07h takes a reserved code and one not in its mask", m, 784, 1, 13, 0xCA, YES);
+    fetch("07h, post-cursor, lane 1", m, 784, 1, 4, 1, 1, NUMBER(10));
+    fetch("07h, post-cursor, lane 2", m, 784, 1, 4, 1, 2, NUMBER(12));
+    m = (map)THE_GAPS;
+    fill(0xFF);
+    wanted[255] = 0;
+    store_byte("offset 255, set 0", m, 784, 0, 255, 0xFF, YES);
+    wanted[256 + 255] = 0;
+    store_byte("offset 255, set 1", m, 784, 1, 255, 0x80, YES);
+    store_byte("offset 256 of 256", m, 784, 0, 256, 0, REFUSED(10, 0));
+    store_byte("no string", (map){15, NONE, NONE}, 784, 0, 0, 0, REFUSED(10, 0));
+}
+
+static void byte_reads(void)
+{
+    map m = THE_MAP;
+    fill(0xFF);
+    fetch_byte("02h, all ones", m, 784, 0, 0, NUMBER(255));
+    fetch_byte("a gap shows 0, set 0", m, 784, 0, 1, NUMBER(0));
+    fetch_byte("a gap shows 0, set 2", m, 785, 2, 2, NUMBER(0));
+    fetch_byte("surplus of 12h shows 0", m, 784, 2, 28, NUMBER(0));
+    put(256 + 3, 0x3C);
+    fetch_byte("05h, set 1", m, 784, 1, 3, NUMBER(0x3C));
+    fetch_byte("05h, set 0", m, 784, 0, 3, NUMBER(255));
+    put(512 + 3, 0x81);
+    fetch_byte("05h, active", m, 784, 2, 3, NUMBER(0x81));
+    put(512 + 20, 0xF2);
+    fetch_byte("12h as an unsigned pattern", m, 784, 2, 20, NUMBER(242));
+    put(512 + 19, 0x80);
+    fetch_byte("P7, as an unsigned pattern", m, 784, 2, 19, NUMBER(128));
+    fetch_byte("the active length", m, 784, 2, 29, REFUSED(10, 0));
+    fetch_byte("a byte of RO in set 0", m, 784, 0, 4, REFUSED(10, 0));
+    fetch_byte("a byte of RO in set 1", m, 784, 1, 20, REFUSED(10, 0));
+    fetch_byte("set 3", m, 784, 3, 0, REFUSED(10, 0));
+    fetch_byte("offset 257", m, 784, 1, 257, REFUSED(10, 0));
+    fetch_byte("the largest numbers", m, 784, SIZE_MAX, SIZE_MAX, REFUSED(10, 0));
+    fetch_byte("byte read, 783 bytes", m, 783, 0, 0, REFUSED(8, 0));
+    fetch_byte("byte read, no bank", m, 0, 3, 0, REFUSED(8, 0));
+    m.count = 0;
+    fetch_byte("9 before 8", m, 783, 0, 0, REFUSED(9, 0));
+    m.count = 4;
+    m.ro_length = 6;
+    fetch_byte("byte read, a bad string", m, 784, 0, 0, REFUSED(1, 4));
+    m = (map)THE_SETTINGS;
+    put(3, 0xED);
+    fetch_byte("two lanes of 04h", m, 784, 0, 3, NUMBER(0xED));
+    m = (map)THE_GAPS;
+    fetch_byte("offset 255", m, 784, 2, 255, NUMBER(0));
+    fetch_byte("offset 256 of 256", m, 784, 2, 256, REFUSED(10, 0));
+    m = (map){4, BYTES(0x00, 0x04, 0x00, 0xF8, 0x0F, 0x05, 0x00, 0x08, 0x00), NONE};
+    put(512 + 255, 0x5A);
+    fetch_byte("the last byte of the active set", m, 784, 2, 255, NUMBER(0x5A));
+}
+
+/* 02h, then 12h at offsets 1, 9, 17 and 25, of steps 0 to 3. */
+#define THE_STEPS \
+    {4, BYTES(0x02, 0x05, 0x0F, 0x01, 0x00), \
+     BYTES(0x12, 0x07, 0x0F, 0x08, 0x00, 0x05, 0x00, 0x12, 0x07, 0x0F, 0x08, 0x00, 0x05, 0x01, \
+           0x12, 0x07, 0x0F, 0x08, 0x00, 0x05, 0x02, 0x12, 0x07, 0x0F, 0x08, 0x00, 0x05, 0x03)}
+
+static void weights(void)
+{
+    map m = THE_STEPS;
+    fill(0x01);
+    put(512 + 1, 0xF2);
+    weigh("P6, step 0", m, 784, 1, 1, NUMBER(-140));
+    put(512 + 9 + 7, 0x80);
+    weigh("step 1, lane 8, -128", m, 784, 2, 8, NUMBER(-2560));
+    put(512 + 17 + 2, 0xFD);
+    weigh("step 2, lane 3, -3", m, 785, 3, 3, NUMBER(-75));
+    put(512 + 25, 0x80);
+    weigh("step 3, -128", m, 784, 4, 1, NUMBER(-5120));
+    weigh("step 3, lane 2, 1", m, 784, 4, 2, NUMBER(40));
+    put(512 + 17 + 7, 0x7F);
+    weigh("step 2, lane 8, 127", m, 784, 3, 8, NUMBER(3175));
+    put(512 + 1 + 1, 0x00);
+    weigh("step 0, lane 2, 0", m, 784, 1, 2, NUMBER(0));
+    weigh("weight of 02h", m, 784, 0, 1, REFUSED(10, 0));
+    weigh("entry 5", m, 784, 5, 1, REFUSED(10, 0));
+    weigh("lane 0", m, 784, 1, 0, REFUSED(10, 0));
+    weigh("lane 9", m, 784, 1, 9, REFUSED(10, 0));
+    weigh("lane 2^32 + 1", m, 784, 1, ((size_t)1 << 32) + 1, REFUSED(10, 0));
+    weigh("entry 2^32 + 1", m, 784, ((size_t)1 << 32) + 1, 1, REFUSED(10, 0));
+    weigh("the largest numbers", m, 784, SIZE_MAX, SIZE_MAX, REFUSED(10, 0));
+    weigh("weight, 783 bytes", m, 783, 1, 1, REFUSED(8, 0));
+    weigh("weight, no bank", m, 0, 0, 0, REFUSED(8, 0));
+    m.count = 0;
+    weigh("9 before 8", m, 783, 1, 1, REFUSED(9, 0));
+    m = (map)THE_MAP;
+    weigh("weight of 00h", m, 784, 1, 1, REFUSED(10, 0));
+    weigh("weight of 11h", m, 784, 3, 1, REFUSED(10, 0));
+    m.ro_length = 6;
+    weigh("weight, a bad string", m, 784, 0, 1, REFUSED(1, 4));
+    put(512, 0xFF);
+    weigh("step in byte 7 with A 2", (map){9, NONE, BYTES(0x12, 0x08, 0x00, 0x00, 0x08, 0x00, 0x01, 0x03)}, 784, 0, 1,
+          NUMBER(-40));
+}
+
 int main(void)
 {
     loads();
@@ -287,6 +709,14 @@ int main(void)
     places();
     owners();
     settings();
+    fresh_banks();
+    selects();
+    writes();
+    reads();
+    publishes();
+    byte_writes();
+    byte_reads();
+    weights();
     printf("interface: %d checks\n", checks);
     return 0;
 }

@@ -1,5 +1,7 @@
 //! The engine's exports, declared as in include/vcs.h, and a safe function over each.
 
+use crate::case::Case;
+
 /// vcs_loaded: the answer of the load.
 #[repr(C)]
 #[derive(Clone, Copy, Debug, Default, PartialEq, Eq)]
@@ -46,6 +48,15 @@ pub struct Owned {
     pub lane: usize,
 }
 
+/// vcs_answer: yes or a number, the answer of the calls on a bank, fresh apart.
+#[repr(C)]
+#[derive(Clone, Copy, Debug, Default, PartialEq, Eq)]
+pub struct Answered {
+    pub refusal: usize,
+    pub at: usize,
+    pub number: i64,
+}
+
 impl Loaded {
     /// The entries of an accepted map, or those before the entry that refused it.
     pub fn entries(&self) -> usize {
@@ -64,10 +75,10 @@ macro_rules! refused {
     )*};
 }
 
-refused! { Loaded Located Placed Owned }
+refused! { Loaded Located Placed Owned Answered }
 
 mod exports {
-    use super::{Loaded, Located, Owned, Placed};
+    use super::{Answered, Loaded, Located, Owned, Placed};
 
     extern "C" {
         pub fn vcs_load(count: usize, rw: *const u8, rw_length: usize, ro: *const u8, ro_length: usize) -> Loaded;
@@ -103,6 +114,109 @@ mod exports {
             offset: usize,
             bit: usize,
         ) -> Owned;
+
+        pub fn vcs_fresh(
+            count: usize,
+            rw: *const u8,
+            rw_length: usize,
+            ro: *const u8,
+            ro_length: usize,
+            bank: *mut u8,
+            bank_length: usize,
+        ) -> Loaded;
+
+        pub fn vcs_select(
+            count: usize,
+            rw: *const u8,
+            rw_length: usize,
+            ro: *const u8,
+            ro_length: usize,
+            bank: *mut u8,
+            bank_length: usize,
+            set: usize,
+            lane: usize,
+            app: usize,
+        ) -> Answered;
+
+        pub fn vcs_write(
+            count: usize,
+            rw: *const u8,
+            rw_length: usize,
+            ro: *const u8,
+            ro_length: usize,
+            bank: *mut u8,
+            bank_length: usize,
+            set: usize,
+            entry: usize,
+            part: usize,
+            lane: usize,
+            value: i64,
+        ) -> Answered;
+
+        pub fn vcs_read(
+            count: usize,
+            rw: *const u8,
+            rw_length: usize,
+            ro: *const u8,
+            ro_length: usize,
+            bank: *const u8,
+            bank_length: usize,
+            set: usize,
+            entry: usize,
+            part: usize,
+            lane: usize,
+        ) -> Answered;
+
+        pub fn vcs_publish(
+            count: usize,
+            rw: *const u8,
+            rw_length: usize,
+            ro: *const u8,
+            ro_length: usize,
+            bank: *mut u8,
+            bank_length: usize,
+            entry: usize,
+            part: usize,
+            lane: usize,
+            value: i64,
+        ) -> Answered;
+
+        pub fn vcs_byte_write(
+            count: usize,
+            rw: *const u8,
+            rw_length: usize,
+            ro: *const u8,
+            ro_length: usize,
+            bank: *mut u8,
+            bank_length: usize,
+            set: usize,
+            offset: usize,
+            byte: u8,
+        ) -> Answered;
+
+        pub fn vcs_byte_read(
+            count: usize,
+            rw: *const u8,
+            rw_length: usize,
+            ro: *const u8,
+            ro_length: usize,
+            bank: *const u8,
+            bank_length: usize,
+            set: usize,
+            offset: usize,
+        ) -> Answered;
+
+        pub fn vcs_weight(
+            count: usize,
+            rw: *const u8,
+            rw_length: usize,
+            ro: *const u8,
+            ro_length: usize,
+            bank: *const u8,
+            bank_length: usize,
+            entry: usize,
+            lane: usize,
+        ) -> Answered;
     }
 }
 
@@ -126,4 +240,52 @@ pub fn place(count: usize, rw: &[u8], ro: &[u8], set: usize, entry: usize, part:
 /// The owner call.
 pub fn owner(count: usize, rw: &[u8], ro: &[u8], set: usize, offset: usize, bit: usize) -> Owned {
     unsafe { exports::vcs_owner(count, rw.as_ptr(), rw.len(), ro.as_ptr(), ro.len(), set, offset, bit) }
+}
+
+/// An export, given the case first and then its own arguments.
+macro_rules! given {
+    ($export:ident, $case:ident $(, $argument:expr)*) => {{
+        let Case { count, rw, ro } = *$case;
+        unsafe { exports::$export(count, rw.as_ptr(), rw.len(), ro.as_ptr(), ro.len() $(, $argument)*) }
+    }};
+}
+
+/// Fresh.
+pub fn fresh(case: &Case, bank: &mut [u8]) -> Loaded {
+    given!(vcs_fresh, case, bank.as_mut_ptr(), bank.len())
+}
+
+/// Select.
+pub fn select(case: &Case, bank: &mut [u8], set: usize, lane: usize, app: usize) -> Answered {
+    given!(vcs_select, case, bank.as_mut_ptr(), bank.len(), set, lane, app)
+}
+
+/// Write.
+pub fn write(case: &Case, bank: &mut [u8], set: usize, entry: usize, part: usize, lane: usize, value: i64) -> Answered {
+    given!(vcs_write, case, bank.as_mut_ptr(), bank.len(), set, entry, part, lane, value)
+}
+
+/// Read.
+pub fn read(case: &Case, bank: &[u8], set: usize, entry: usize, part: usize, lane: usize) -> Answered {
+    given!(vcs_read, case, bank.as_ptr(), bank.len(), set, entry, part, lane)
+}
+
+/// Publish.
+pub fn publish(case: &Case, bank: &mut [u8], entry: usize, part: usize, lane: usize, value: i64) -> Answered {
+    given!(vcs_publish, case, bank.as_mut_ptr(), bank.len(), entry, part, lane, value)
+}
+
+/// Byte write.
+pub fn byte_write(case: &Case, bank: &mut [u8], set: usize, offset: usize, byte: u8) -> Answered {
+    given!(vcs_byte_write, case, bank.as_mut_ptr(), bank.len(), set, offset, byte)
+}
+
+/// Byte read.
+pub fn byte_read(case: &Case, bank: &[u8], set: usize, offset: usize) -> Answered {
+    given!(vcs_byte_read, case, bank.as_ptr(), bank.len(), set, offset)
+}
+
+/// Weight.
+pub fn weight(case: &Case, bank: &[u8], entry: usize, lane: usize) -> Answered {
+    given!(vcs_weight, case, bank.as_ptr(), bank.len(), entry, lane)
 }

@@ -4,6 +4,7 @@ use crate::calls;
 use crate::case::Case;
 use crate::engine::Loaded;
 use crate::report::Report;
+use crate::strings::Flat;
 
 pub const MAP_INPUT: &[u8] = include_bytes!("../../examples/document-01.map");
 pub const MAP_OUTPUT: &[u8] = include_bytes!("../../examples/document-01.out");
@@ -55,6 +56,11 @@ pub fn compare(report: &mut Report) {
     }
 }
 
+/// The settings' maps, to call on with a bank.
+pub fn maps() -> Vec<Flat> {
+    settings().iter().map(|&(_, count, rw, ro, _)| Flat { count, strings: [hex(rw), hex(ro)] }).collect()
+}
+
 /// Name, count, RW and RO in hex, answer.
 #[rustfmt::skip]
 fn settings() -> Vec<(&'static str, usize, &'static str, &'static str, Loaded)> {
@@ -95,6 +101,12 @@ fn settings() -> Vec<(&'static str, usize, &'static str, &'static str, Loaded)> 
         ("media after media", 4, "0F 05 00 08 01 02 05 00 01 01", "", accepted(2, 0, 9, 9)),
         ("flag bits 1 to 7 are ignored", 4, "0F 05 00 08 FE 02 05 00 01 00", "", accepted(2, 0, 9, 9)),
         ("media side in RO", 4, "", "11 05 00 10 01 12 07 00 08 00 00 00", accepted(0, 2, 0, 24)),
+        ("every ID of the table, every code in the masks", 4,
+         "02 05 0F 01 00 03 05 0F 02 00 04 07 0F 04 00 FF FF 05 05 0F 01 00 06 05 0F 01 00 \
+          07 08 0F 08 00 00 FF FF 08 07 0F 04 00 FF FF 0F 05 0F 08 00 10 05 0F 08 00",
+         "11 05 0F 10 00 12 07 0F 08 00 00 00", accepted(9, 2, 37, 61)),
+        ("P10, P11 and 07h without 12", 9,
+         "04 08 01 FF 04 00 1F FF 08 08 01 FF 05 00 FF FF 07 09 01 FF 08 00 FF EF FF", "", accepted(3, 0, 17, 17)),
     ]
 }
 

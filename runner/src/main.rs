@@ -6,6 +6,7 @@ mod case;
 mod damaged;
 mod engine;
 mod fixed;
+mod lists;
 mod peer;
 mod program;
 mod random;
@@ -48,6 +49,9 @@ fn main() -> ExitCode {
 
 fn compare() -> bool {
     let mut calls = calls::CALLS.to_vec();
+    calls.extend(&lists::VALUES_BY_ID);
+    calls.extend(&lists::BYTES_BY_KIND);
+    calls.extend(&lists::WEIGHTS_BY_STEP);
     if program::exists() {
         calls.push(&program::CALL);
     }
@@ -68,6 +72,8 @@ fn compare() -> bool {
             shared_buffer(&mut report, &map, &random);
         }
     }
+    lists::compare(&mut report);
+    lists::compare_whole(&mut report);
     if program::exists() {
         program::compare(&mut report);
     } else {

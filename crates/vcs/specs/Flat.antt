@@ -1,8 +1,10 @@
 -- What a flat answer has for each case of an answer: 01's number and values.
 use mathlib.Core.Bool.{cond}
-use Prim.Native.Nat.{ℕ}
+use lib.IntN.{pos}
 use Rattle.rules.specs.declared.Refusal.{Refusal}
 use Rattle.rules.specs.declared.Refusal.the-variants.{Plain as plain, AtEntry as atEntry, AtLane as atLane}
+use Rattle.rules.specs.declared.Answer.{Answer}
+use Rattle.rules.specs.declared.Answer.the-variants.{Yes as yes, Number as theNumber, Refused as refused}
 use Rattle.rules.specs.declared.Loaded.{Loaded}
 use Rattle.rules.specs.declared.Loaded.the-variants.{Accepted as accepted, Refused as rejected}
 use Rattle.rules.specs.declared.Placed.{Placed}
@@ -16,6 +18,7 @@ use Rattle.vcs.specs.declared.FlatLoaded.{FlatLoaded}
 use Rattle.vcs.specs.declared.FlatEntry.{FlatEntry}
 use Rattle.vcs.specs.declared.FlatPlaced.{FlatPlaced}
 use Rattle.vcs.specs.declared.FlatOwned.{FlatOwned}
+use Rattle.vcs.specs.declared.FlatAnswer.{FlatAnswer}
 
 -- the number of a refusal and its extra
 abbrev pub reasonOf : Refusal → Reason
@@ -41,3 +44,8 @@ abbrev pub flatOwned : Owned → FlatOwned
 flatOwned (ownedBy e p i) = record { refusal = 0; at = 0; gap = 0; entry = e; part = p; lane = i }
 flatOwned noOwner = record { refusal = 0; at = 0; gap = 1; entry = 0; part = 0; lane = 0 }
 flatOwned (notOwned r) = record { refusal = reasonOf r .number; at = reasonOf r .at; gap = 0; entry = 0; part = 0; lane = 0 }
+
+abbrev pub flatAnswer : Answer → FlatAnswer
+flatAnswer yes = record { refusal = 0; at = 0; number = pos 0 }
+flatAnswer (theNumber n) = record { refusal = 0; at = 0; number = n }
+flatAnswer (refused r) = record { refusal = reasonOf r .number; at = reasonOf r .at; number = pos 0 }

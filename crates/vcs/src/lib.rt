@@ -1,14 +1,25 @@
 // The C interface (include/vcs.h): thin exports of the calls, with flat answers.
 ghost use mathlib.Core.Path.{_≡_};
 ghost use Rattle.rules.specs.Load.{loadOf};
-ghost use Rattle.rules.specs.Beside.{placeOf, ownerCall};
+ghost use Rattle.rules.specs.declared.Call.{Call};
+ghost use Rattle.rules.specs.Bank.{freshStep, bankStep};
+ghost use Rattle.rules.specs.Beside.{placeOf, ownerCall, weightCall};
 ghost use Rattle.descriptor.specs.Locate.{locatedOf};
-ghost use Rattle.vcs.specs.Flat.{reasonOf, flatLoaded, flatEntry, flatPlaced, flatOwned};
+ghost use Rattle.vcs.specs.Flat.{reasonOf, flatLoaded, flatEntry, flatPlaced, flatOwned, flatAnswer};
+use control_set::byte_read;
+use control_set::byte_write;
+use control_set::fresh;
+use control_set::publish;
+use control_set::read;
+use control_set::select;
+use control_set::weight;
+use control_set::write;
 use descriptor::Located;
 use descriptor::load;
 use descriptor::locate;
 use placement::owner;
 use placement::place;
+use rules::Answer;
 use rules::Loaded;
 use rules::Owned;
 use rules::Placed;
@@ -62,6 +73,14 @@ pub struct FlatOwned {
     pub lane: usize,
 }
 
+// vcs_answer
+#[repr(C)]
+pub struct FlatAnswer {
+    pub refusal: usize,
+    pub at: usize,
+    pub number: i64,
+}
+
 fn reason_of(r: Refusal) -> Reason
     ensures { λ x. ⌜ x ≡ reasonOf r ⌝ }
 {
@@ -72,13 +91,10 @@ fn reason_of(r: Refusal) -> Reason
     }
 }
 
-// The load: both entry counts, staged and active length.
-#[no_mangle]
-pub extern "C" fn vcs_load(count: usize, rw: &[u8], ro: &[u8]) -> FlatLoaded
-    ensures { λ r. ⌜ r ≡ flatLoaded (loadOf count (now (rw .entry)) (now (ro .entry))) ⌝ }
+fn flat_loaded(l: Loaded) -> FlatLoaded
+    ensures { λ r. ⌜ r ≡ flatLoaded l ⌝ }
 {
-    let loaded = load(count, rw, ro);
-    match loaded {
+    match l {
         Loaded::Accepted {
             rw_count,
             ro_count,
@@ -104,6 +120,39 @@ pub extern "C" fn vcs_load(count: usize, rw: &[u8], ro: &[u8]) -> FlatLoaded
             }
         }
     }
+}
+
+fn flat_answer(a: Answer) -> FlatAnswer
+    ensures { λ r. ⌜ r ≡ flatAnswer a ⌝ }
+{
+    match a {
+        Answer::Yes => FlatAnswer {
+            refusal: 0,
+            at: 0,
+            number: 0,
+        },
+        Answer::Number(number) => FlatAnswer {
+            refusal: 0,
+            at: 0,
+            number,
+        },
+        Answer::Refused(r) => {
+            let why = reason_of(r);
+            FlatAnswer {
+                refusal: why.number,
+                at: why.at,
+                number: 0,
+            }
+        }
+    }
+}
+
+// The load: both entry counts, staged and active length.
+#[no_mangle]
+pub extern "C" fn vcs_load(count: usize, rw: &[u8], ro: &[u8]) -> FlatLoaded
+    ensures { λ r. ⌜ r ≡ flatLoaded (loadOf count (now (rw .entry)) (now (ro .entry))) ⌝ }
+{
+    flat_loaded(load(count, rw, ro))
 }
 
 // The entry call: which string (0 RW, 1 RO), start and length there, and the offset in a set.
@@ -221,4 +270,131 @@ pub extern "C" fn vcs_owner(
             }
         }
     }
+}
+
+// Fresh: the bank cleared, and both entry counts, staged and active length.
+#[no_mangle]
+pub extern "C" fn vcs_fresh(count: usize, rw: &[u8], ro: &[u8], bank: &mut [u8]) -> FlatLoaded
+    ensures answer { λ r. ⌜ r ≡ flatLoaded (freshStep count (now (rw .entry)) (now (ro .entry)) (now (bank .entry)) .0) ⌝ }
+    ensures after { λ _. ⌜ now (bank .exit) ≡ freshStep count (now (rw .entry)) (now (ro .entry)) (now (bank .entry)) .1 ⌝ }
+{
+    flat_loaded(fresh(count, rw, ro, bank))
+}
+
+// Select: the AppSel of a lane of a staged set is stored.
+#[no_mangle]
+pub extern "C" fn vcs_select(
+    count: usize,
+    rw: &[u8],
+    ro: &[u8],
+    bank: &mut [u8],
+    set: usize,
+    lane: usize,
+    app: usize,
+) -> FlatAnswer
+    ensures answer { λ r. ⌜ r ≡ flatAnswer (bankStep count (now (rw .entry)) (now (ro .entry)) (Call.Select set lane app) (now (bank .entry)) .0) ⌝ }
+    ensures after { λ _. ⌜ now (bank .exit) ≡ bankStep count (now (rw .entry)) (now (ro .entry)) (Call.Select set lane app) (now (bank .entry)) .1 ⌝ }
+{
+    flat_answer(select(count, rw, ro, bank, set, lane, app))
+}
+
+// Write: an accepted value is stored in a field of a staged set.
+#[no_mangle]
+pub extern "C" fn vcs_write(
+    count: usize,
+    rw: &[u8],
+    ro: &[u8],
+    bank: &mut [u8],
+    set: usize,
+    entry: usize,
+    part: usize,
+    lane: usize,
+    value: i64,
+) -> FlatAnswer
+    ensures answer { λ r. ⌜ r ≡ flatAnswer (bankStep count (now (rw .entry)) (now (ro .entry)) (Call.Write set entry part lane value) (now (bank .entry)) .0) ⌝ }
+    ensures after { λ _. ⌜ now (bank .exit) ≡ bankStep count (now (rw .entry)) (now (ro .entry)) (Call.Write set entry part lane value) (now (bank .entry)) .1 ⌝ }
+{
+    flat_answer(write(count, rw, ro, bank, set, entry, part, lane, value))
+}
+
+// Read: the number of a field.
+#[no_mangle]
+pub extern "C" fn vcs_read(
+    count: usize,
+    rw: &[u8],
+    ro: &[u8],
+    bank: &[u8],
+    set: usize,
+    entry: usize,
+    part: usize,
+    lane: usize,
+) -> FlatAnswer
+    ensures answer { λ r. ⌜ r ≡ flatAnswer (bankStep count (now (rw .entry)) (now (ro .entry)) (Call.Read set entry part lane) (now (bank .entry)) .0) ⌝ }
+{
+    flat_answer(read(count, rw, ro, bank, set, entry, part, lane))
+}
+
+// Byte write: each field in a byte of a staged set takes its own bits, and its gaps become 0.
+#[no_mangle]
+pub extern "C" fn vcs_byte_write(
+    count: usize,
+    rw: &[u8],
+    ro: &[u8],
+    bank: &mut [u8],
+    set: usize,
+    offset: usize,
+    value: u8,
+) -> FlatAnswer
+    ensures answer { λ r. ⌜ r ≡ flatAnswer (bankStep count (now (rw .entry)) (now (ro .entry)) (Call.ByteWrite set offset value) (now (bank .entry)) .0) ⌝ }
+    ensures after { λ _. ⌜ now (bank .exit) ≡ bankStep count (now (rw .entry)) (now (ro .entry)) (Call.ByteWrite set offset value) (now (bank .entry)) .1 ⌝ }
+{
+    flat_answer(byte_write(count, rw, ro, bank, set, offset, value))
+}
+
+// Byte read: a byte of a set, its gaps as 0.
+#[no_mangle]
+pub extern "C" fn vcs_byte_read(
+    count: usize,
+    rw: &[u8],
+    ro: &[u8],
+    bank: &[u8],
+    set: usize,
+    offset: usize,
+) -> FlatAnswer
+    ensures { λ r. ⌜ r ≡ flatAnswer (bankStep count (now (rw .entry)) (now (ro .entry)) (Call.ByteRead set offset) (now (bank .entry)) .0) ⌝ }
+{
+    flat_answer(byte_read(count, rw, ro, bank, set, offset))
+}
+
+// Publish: an accepted value is stored in a field of an RO entry.
+#[no_mangle]
+pub extern "C" fn vcs_publish(
+    count: usize,
+    rw: &[u8],
+    ro: &[u8],
+    bank: &mut [u8],
+    entry: usize,
+    part: usize,
+    lane: usize,
+    value: i64,
+) -> FlatAnswer
+    ensures answer { λ r. ⌜ r ≡ flatAnswer (bankStep count (now (rw .entry)) (now (ro .entry)) (Call.Publish entry part lane value) (now (bank .entry)) .0) ⌝ }
+    ensures after { λ _. ⌜ now (bank .exit) ≡ bankStep count (now (rw .entry)) (now (ro .entry)) (Call.Publish entry part lane value) (now (bank .entry)) .1 ⌝ }
+{
+    flat_answer(publish(count, rw, ro, bank, entry, part, lane, value))
+}
+
+// Weight: the active number of a lane of a 12h entry, in thousandths.
+#[no_mangle]
+pub extern "C" fn vcs_weight(
+    count: usize,
+    rw: &[u8],
+    ro: &[u8],
+    bank: &[u8],
+    entry: usize,
+    lane: usize,
+) -> FlatAnswer
+    ensures { λ r. ⌜ r ≡ flatAnswer (weightCall count (now (rw .entry)) (now (ro .entry)) (now (bank .entry)) entry lane) ⌝ }
+{
+    flat_answer(weight(count, rw, ro, bank, entry, lane))
 }

@@ -15,8 +15,9 @@ impl Answer for Loaded {
     }
 }
 
-fn of_second(case: &Case) -> Loaded {
-    match second::load(case.count, case.rw, case.ro) {
+/// The second program's answer of a load, as the engine gives it.
+pub fn as_engine(answer: Result<second::Loaded, second::Refusal>) -> Loaded {
+    match answer {
         Ok(loaded) => Loaded {
             refusal: 0,
             at: 0,
@@ -30,6 +31,11 @@ fn of_second(case: &Case) -> Loaded {
             Loaded::refused(number, at)
         }
     }
+}
+
+/// The second program's load.
+pub fn of_second(case: &Case) -> Loaded {
+    as_engine(second::load(case.count, case.rw, case.ro))
 }
 
 /// Compares the load, also with further answers that are known. The answer, if all agree.

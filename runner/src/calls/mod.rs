@@ -1,5 +1,6 @@
 //! The calls that are compared, a module for each.
 
+pub mod bank;
 pub mod entry;
 pub mod load;
 pub mod owner;
@@ -12,12 +13,27 @@ use crate::report::Report;
 use crate::tally::Row;
 
 /// Every call, in the order of the table that is printed.
-pub const CALLS: [&Row; 6] = [&load::CALL, &entry::CALL, &place::CALL, &owner::CALL, &owner::FIELD, &owner::GAP];
+pub const CALLS: [&Row; 14] = [
+    &load::CALL,
+    &entry::CALL,
+    &place::CALL,
+    &owner::CALL,
+    &owner::FIELD,
+    &owner::GAP,
+    &bank::FRESH,
+    &bank::SELECT,
+    &bank::WRITE,
+    &bank::READ,
+    &bank::PUBLISH,
+    &bank::BYTE_WRITE,
+    &bank::BYTE_READ,
+    &bank::WEIGHT,
+];
 
 /// Random place and owner calls on one map.
 const FEW: usize = 3;
 
-/// Compares every call on one map: place and owner for a few random numbers.
+/// Compares every call without a bank on one map: place and owner for a few random numbers.
 pub fn compare(report: &mut Report, case: &Case, random: &Random) {
     if let Some(loaded) = load::compare(report, case, &[]) {
         entry::compare(report, case, &loaded);
@@ -28,7 +44,7 @@ pub fn compare(report: &mut Report, case: &Case, random: &Random) {
     }
 }
 
-/// Compares every call on one map: the load also with answers that are known, place and owner for every field and bit.
+/// Compares every call without a bank on one map: the load also with answers that are known, place and owner for every field and bit.
 pub fn compare_all(report: &mut Report, case: &Case, known: &[(&str, Loaded)]) {
     if let Some(loaded) = load::compare(report, case, known) {
         entry::compare(report, case, &loaded);

@@ -1,5 +1,5 @@
 -- `vcs_entry` meets its contract.
-use mathlib.Core.Path.{refl, sym, _∙_}
+use mathlib.Core.Path.{refl}
 use borrow.Author.Needs.{needs}
 use Rattle.vcs.proofs.vcs_entry.Statement.{statement}
 use Rattle.vcs.proofs.vcs_entry.Tie as tie

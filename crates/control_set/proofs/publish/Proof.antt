@@ -1,0 +1,163 @@
+-- `publish` meets its contract: each of its tests is the rules' test of that number.
+use borrow.Author.Needs.{needs}
+use mathlib.Core.Path.{_≡_, refl, sym, ap, _∙_}
+use mathlib.Core.Bool.{true, false, not}
+use lib.ListN.{length}
+use mir.Syntax.{w64}
+use mir.Val.{toZ, ofZ}
+use mir.Facts.{toZ-ofZ}
+use denote.Ref.{now}
+use borrow.Author.Tests.{not-true, not-false}
+use Rattle.rules.specs.declared.Call.{Call}
+use Rattle.rules.specs.Load.{mapOf}
+use Rattle.rules.specs.Refuse.{exists, misdirected, unaccepted}
+use Rattle.rules.specs.Bank.{bankPlan, bankDoes}
+use Rattle.rules.proofs.Steps.{meets}
+use Rattle.rules.proofs.Places.{Field}
+use Rattle.control_set.specs.Values.{acceptsBy}
+use Rattle.control_set.specs.Gate.{Entered}
+use Rattle.control_set.proofs.Ways.{call-10, call-11, call-12, call-done}
+use Rattle.control_set.proofs.Spots.{with-number}
+use Rattle.control_set.proofs.Enters.{entered-opened, width-is, call-unfound, no-publish, publish-tested, publish-directed, publish-there, spot-there, value-tested, value-bits}
+use Rattle.control_set.proofs.publish.Statement.{statement}
+use Rattle.control_set.proofs.publish.Tie as tie
+
+-- the entry that is found, in what the pattern binds
+entered : (c : tie.After-known-told) →
+    let g = c .before .before .before .before .before .before .before .args in
+    let x = c .before .found .given .0 in
+    Entered (g .count) (now (g .rw)) (now (g .ro)) (length (now (g .bank))) (g .entry) (x .0) (x .1 .0)
+entered c = rw (c .before .found .given .1) at (c .before .before .before .admit-entry .ensures)
+
+-- the value, as the machine hands it on
+plain : (c : tie.Start) → toZ w64 (ofZ w64 (c .args .value)) ≡ c .args .value
+plain c = toZ-ofZ (c .fits .value)
+
+accepted : (c : tie.After-accepts) → let x = c .before .before .before .before .before .before .found .given .0 in c .accepts .result ≡ acceptsBy (x .1 .0 .id) (x .1 .0 .codes) (c .before .before .before .before .before .before .before .before .before .before .before .before .args .value)
+accepted c = rw (plain (c .before .before .before .before .before .before .before .before .before .before .before .before)) at (c .accepts .ensures)
+
+-- what is passed: 10 and 11, then 12
+there : (c : tie.Else1) → let g = c .before .before .before .before .before .before .before .before .before .before .args in exists (mapOf (g .count) (now (g .rw)) (now (g .ro))) (Call.Publish (g .entry) (g .part) (g .lane) (g .value)) ≡ true
+there c =
+    let k = c .before .before in
+    let g = k .before .before .before .before .before .before .before .before .args in
+    publish-tested (g .count) (now (g .rw)) (now (g .ro)) (now (g .bank)) (entered (k .before)) (k .shape-of .ensures .0) (g .part) (g .lane) (g .value) ∙ not-false _ (c .if1 .left)
+
+may : (c : tie.Else2) → let g = c .before .before .before .before .before .before .before .before .before .before .before .args in misdirected (mapOf (g .count) (now (g .rw)) (now (g .ro))) (Call.Publish (g .entry) (g .part) (g .lane) (g .value)) ≡ false
+may c =
+    let k = c .before .before .before in
+    let g = k .before .before .before .before .before .before .before .before .args in
+    publish-directed (g .count) (now (g .rw)) (now (g .ro)) (entered (k .before)) (g .part) (g .lane) (g .value) ∙ c .if2 .left
+
+fine : (c : tie.Else3) → let g = c .before .before .before .before .before .before .before .before .before .before .before .before .before .args in unaccepted (mapOf (g .count) (now (g .rw)) (now (g .ro))) (Call.Publish (g .entry) (g .part) (g .lane) (g .value)) ≡ false
+unfolding unaccepted
+fine c =
+    let k = c .before .before .before .before .before in
+    let g = k .before .before .before .before .before .before .before .before .args in
+    value-tested (g .count) (now (g .rw)) (now (g .ro)) (now (g .bank)) (entered (k .before)) (g .value) ∙ ap not (sym (accepted (c .before)) ∙ not-false _ (c .if3 .left))
+
+-- the field
+field : (c : tie.Else2) → let g = c .before .before .before .before .before .before .before .before .before .before .before .args in Field (mapOf (g .count) (now (g .rw)) (now (g .ro))) 2 (g .entry) (g .part) (g .lane)
+field c =
+    let k = c .before .before .before in
+    let g = k .before .before .before .before .before .before .before .before .args in
+    publish-there (g .count) (now (g .rw)) (now (g .ro)) (now (g .bank)) (entered (k .before)) (k .shape-of .ensures .0) (g .part) (g .lane) (not-false _ (c .before .if1 .left))
+
+admit-entry-requires : tie.Need-admit-entry-requires
+admit-entry-requires c κs = search needs
+
+enum-known-found : tie.Need-enum-known-found
+enum-known-found c = search needs
+
+enum-told : tie.Need-enum-told
+enum-told c = search needs
+
+refused-requires : tie.Need-refused-requires
+refused-requires c κs = search needs
+
+returns : tie.Need-returns
+returns c =
+    let k = c .before .before .before in
+    let g = k .before .before .before .before .args in
+    meets (call-unfound (g .count) (now (g .rw)) (now (g .ro)) (now (g .bank)) (g .entry) (Call.Publish (g .entry) (g .part) (g .lane) (g .value)) (λ l. no-publish (g .count) (now (g .rw)) (now (g .ro)) (now (g .bank)) (g .entry) l (g .part) (g .lane) (g .value)) (c .before .enum-told .given .1) (k .admit-entry .ensures)) (c .refused .ensures) refl
+
+shape-of-requires : tie.Need-shape-of-requires
+shape-of-requires c κs = search needs
+
+returns-2 : tie.Need-returns-2
+returns-2 c =
+    let k = c .before .before in
+    let g = k .before .before .before .before .before .before .before .before .args in
+    let t = entered (k .before) in
+    meets (call-10 (g .count) (now (g .rw)) (now (g .ro)) (Call.Publish (g .entry) (g .part) (g .lane) (g .value)) (now (g .bank)) (entered-opened (g .count) (now (g .rw)) (now (g .ro)) (now (g .bank)) t) (publish-tested (g .count) (now (g .rw)) (now (g .ro)) (now (g .bank)) t (k .shape-of .ensures .0) (g .part) (g .lane) (g .value) ∙ not-true _ (c .if1 .taken))) refl refl
+
+returns-3 : tie.Need-returns-3
+returns-3 c =
+    let k = c .before .before .before in
+    let g = k .before .before .before .before .before .before .before .before .args in
+    let t = entered (k .before) in
+    meets (call-11 (g .count) (now (g .rw)) (now (g .ro)) (Call.Publish (g .entry) (g .part) (g .lane) (g .value)) (now (g .bank)) (entered-opened (g .count) (now (g .rw)) (now (g .ro)) (now (g .bank)) t) (there (c .before)) (publish-directed (g .count) (now (g .rw)) (now (g .ro)) t (g .part) (g .lane) (g .value) ∙ c .if2 .taken)) refl refl
+
+accepts-requires : tie.Need-accepts-requires
+accepts-requires c κs = search needs
+
+returns-4 : tie.Need-returns-4
+unfolding unaccepted
+returns-4 c =
+    let k = c .before .before .before .before .before in
+    let g = k .before .before .before .before .before .before .before .before .args in
+    let t = entered (k .before) in
+    meets
+    (call-12 (g .count) (now (g .rw)) (now (g .ro)) (Call.Publish (g .entry) (g .part) (g .lane) (g .value)) (now (g .bank)) (entered-opened (g .count) (now (g .rw)) (now (g .ro)) (now (g .bank)) t) (there (c .before .before .before)) (may (c .before .before))
+    (value-tested (g .count) (now (g .rw)) (now (g .ro)) (now (g .bank)) t (g .value) ∙ ap not (sym (accepted (c .before)) ∙ not-true _ (c .if3 .taken))))
+    refl
+    refl
+
+bits-of-requires : tie.Need-bits-of-requires
+bits-of-requires c κs =
+    let k = c .before .before .before .before .before in
+    let g = k .before .before .before .before .before .before .before .before .args in
+    rw (plain (k .before .before .before .before .before .before .before .before))
+    (value-bits (g .count) (now (g .rw)) (now (g .ro)) (now (g .bank)) (entered (k .before)) (k .shape-of .ensures .0) (field (c .before .before)) (g .value) (sym (accepted (c .before)) ∙ not-false _ (c .if3 .left)))
+
+write-field-requires : tie.Need-write-field-requires
+write-field-requires c κs =
+    let e = c .before .before in
+    let k = e .before .before .before .before .before in
+    let g = k .before .before .before .before .before .before .before .before .args in
+    (spot-there (g .count) (now (g .rw)) (now (g .ro)) (now (g .bank)) (entered (k .before)) (k .shape-of .ensures .0) (field (e .before .before)), c .before .bits-of .ensures .1)
+
+same-length : tie.Need-same-length
+same-length c = search needs
+
+returns-5 : tie.Need-returns-5
+unfolding bankPlan bankDoes
+returns-5 c =
+    let w = c .before .before in
+    let e = w .before .before .before in
+    let k = e .before .before .before .before .before in
+    let g = k .before .before .before .before .before .before .before .before .args in
+    let t = entered (k .before) in
+    meets
+    (call-done (g .count) (now (g .rw)) (now (g .ro)) (Call.Publish (g .entry) (g .part) (g .lane) (g .value)) (now (g .bank)) (entered-opened (g .count) (now (g .rw)) (now (g .ro)) (now (g .bank)) t) (there (e .before .before .before)) (may (e .before .before)) (fine e) refl)
+    refl
+    (w .write-field .ensures ∙ rw (w .before .before .bits-of .ensures .0, plain (k .before .before .before .before .before .before .before .before)) (with-number (mapOf (g .count) (now (g .rw)) (now (g .ro))) (now (g .bank)) 2 (g .entry) (g .part) (g .lane) _ (sym (t .is)) _ (width-is (g .count) (now (g .rw)) (now (g .ro)) (now (g .bank)) t (k .shape-of .ensures .0)) (g .value)))
+
+pub publish-spec : {M : Type 1} → statement M
+publish-spec =
+    tie.close
+    (tie.spec
+    admit-entry-requires
+    enum-known-found
+    enum-told
+    refused-requires
+    returns
+    shape-of-requires
+    returns-2
+    returns-3
+    accepts-requires
+    returns-4
+    bits-of-requires
+    write-field-requires
+    same-length
+    returns-5)

@@ -1,0 +1,71 @@
+-- The checks 9, 8 and 1 to 7 of a call on a bank of a size: refused whatever follows, or past them with the load's numbers.
+use mathlib.Core.Path.{_≡_}
+use mathlib.Core.Bool.{Bool, false, _&&_, not, cond}
+use mathlib.Core.List.{List}
+use Prim.Native.Nat.{ℕ, _%_, _≤_, _<_}
+use lib.ListN.{length}
+use lib.Dec.{ltb}
+use Rattle.rules.specs.declared.Loaded.the-variants.{Accepted as accepted}
+use Rattle.rules.specs.declared.Answer.{Answer}
+use Rattle.rules.specs.declared.Answer.the-variants.{Yes as saysYes, Refused as refused}
+use Rattle.rules.specs.declared.Entry.{Entry}
+use Rattle.rules.specs.declared.Refusal.the-variants.{Plain as plain}
+use Rattle.rules.specs.Load.{loadOf, mapOf}
+use Rattle.rules.specs.Place.{entry, isSet, isRW, lengthOf}
+use Rattle.rules.specs.Layout.{bankSize}
+use Rattle.rules.specs.Refuse.{Verdict, refuses, firstOf, bankOrder}
+use Rattle.rules.specs.Bank.{fieldBits}
+use Rattle.rules.specs.Demands.{Accepted}
+use Rattle.descriptor.specs.declared.Found.{Found}
+use Rattle.descriptor.specs.declared.Found.the-variants.{In as isIn, Refused as notFound}
+use Rattle.control_set.specs.declared.gate.Byte.{Byte}
+use Rattle.control_set.specs.declared.gate.Byte.the-variants.{Has as has, Refused as stops}
+use Rattle.control_set.specs.declared.gate.Gate.{Gate}
+use Rattle.control_set.specs.declared.gate.Gate.the-variants.{Open as opens, Refused as shuts}
+
+-- past the gate
+pub record Opened (count : ℕ) (rw ro : List ℕ) (size n k c t : ℕ) : Type 0 where
+  pub size-is : bankSize ≤ size
+  pub loads : loadOf count rw ro ≡ accepted n k c t
+
+abbrev pub Gated : ℕ → List ℕ → List ℕ → ℕ → Gate → Type 0
+Gated count rw ro size (opens n k c t) = Opened count rw ro size n k c t
+Gated count rw ro size (shuts r) = (rest : List Verdict) → bankOrder count rw ro size rest ≡ refuses r
+
+-- past the gate with an entry of the map, and whether it stands in the RO string
+pub record Entered (count : ℕ) (rw ro : List ℕ) (size e : ℕ) (inRO : Bool) (x : Entry) : Type 0 where
+  pub size-is : bankSize ≤ size
+  pub ok : Accepted count rw ro
+  pub there : e < length (mapOf count rw ro .entries)
+  pub side : inRO ≡ not (isRW (mapOf count rw ro) e)
+  pub is : entry (mapOf count rw ro) e ≡ x
+
+-- refused, where what follows gives 10 to an entry that doesn't exist
+abbrev pub EntryGated : ℕ → List ℕ → List ℕ → ℕ → ℕ → Found → Type 0
+EntryGated count rw ro size e (isIn inRO x) = Entered count rw ro size e inRO x
+EntryGated count rw ro size e (notFound r) =
+    (rest : List Verdict) → (length (mapOf count rw ro .entries) ≤ e → firstOf rest ≡ refuses (plain 10)) → bankOrder count rw ro size rest ≡ refuses r
+
+-- the answer of a call that the gate refuses
+abbrev pub refusedOf : Found → Answer
+refusedOf (isIn inRO x) = saysYes
+refusedOf (notFound r) = refused r
+
+-- past the gate with a byte of a set, and whether it has fields: the bits of fields are then the whole byte, else 0
+pub record Reached (count : ℕ) (rw ro : List ℕ) (size s k : ℕ) (fields : Bool) : Type 0 where
+  pub size-is : bankSize ≤ size
+  pub ok : Accepted count rw ro
+  pub isSet : s < 3
+  pub low : k < lengthOf (mapOf count rw ro) s
+  pub top : k < 256
+  pub bits : (x : ℕ) → fieldBits (mapOf count rw ro) s k x ≡ cond fields (x % 256) 0
+
+-- refused, where what follows gives 10 to a set or an offset that doesn't exist
+abbrev pub ByteGated : ℕ → List ℕ → List ℕ → ℕ → ℕ → ℕ → Byte → Type 0
+ByteGated count rw ro size s k (has fields) = Reached count rw ro size s k fields
+ByteGated count rw ro size s k (stops r) =
+    (rest : List Verdict) → ((isSet s && ltb k (lengthOf (mapOf count rw ro) s)) ≡ false → firstOf rest ≡ refuses (plain 10)) → bankOrder count rw ro size rest ≡ refuses r
+
+abbrev pub byteRefused : Byte → Answer
+byteRefused (has fields) = saysYes
+byteRefused (stops r) = refused r

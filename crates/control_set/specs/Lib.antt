@@ -1,0 +1,4 @@
+-- What the private functions of this crate mean, in terms of the rules.
+pub mod Field
+pub mod Values
+pub mod Gate

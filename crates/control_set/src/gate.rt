@@ -1,0 +1,103 @@
+// What every call on a bank checks first: 9, 8, then 1 to 7.
+ghost use Rattle.control_set.specs.Gate.{Gated, EntryGated, ByteGated};
+use descriptor::Covered;
+use descriptor::Found;
+use descriptor::cover;
+use descriptor::find;
+use descriptor::limits;
+use descriptor::load;
+use descriptor::shape_of;
+use rules::Loaded;
+use rules::Refusal;
+
+// Past 9, 8 and 1 to 7, with what the load answers; or the refusal.
+pub enum Gate {
+    Open {
+        rw: usize,
+        ro: usize,
+        staged: usize,
+        active: usize,
+    },
+    Refused(Refusal),
+}
+
+pub fn admit(count: usize, rw: &[u8], ro: &[u8], size: usize) -> Gate
+    ensures { λ r. ⌜ Gated count (now (rw .entry)) (now (ro .entry)) size r ⌝ }
+{
+    if !limits(count, rw, ro) {
+        return Gate::Refused(Refusal::Plain(9));
+    }
+    if size < 784 {
+        return Gate::Refused(Refusal::Plain(8));
+    }
+    let loaded = load(count, rw, ro);
+    match loaded {
+        Loaded::Accepted {
+            rw_count,
+            ro_count,
+            staged_length,
+            active_length,
+        } => Gate::Open {
+            rw: rw_count,
+            ro: ro_count,
+            staged: staged_length,
+            active: active_length,
+        },
+        Loaded::Refused(r) => Gate::Refused(r),
+    }
+}
+
+// The same for a call that names an entry: 9, 8, then 1 to 7 and an entry that doesn't exist.
+pub fn admit_entry(count: usize, rw: &[u8], ro: &[u8], size: usize, entry: usize) -> Found
+    ensures { λ r. ⌜ EntryGated count (now (rw .entry)) (now (ro .entry)) size entry r ⌝ }
+{
+    if !limits(count, rw, ro) {
+        return Found::Refused(Refusal::Plain(9));
+    }
+    if size < 784 {
+        return Found::Refused(Refusal::Plain(8));
+    }
+    find(count, rw, ro, entry)
+}
+
+// Whether a byte of a set has fields, for a call that names it; or the refusal.
+pub enum Byte {
+    Has(bool),
+    Refused(Refusal),
+}
+
+// The same for a call that names a byte: 9, 8, then 1 to 7 and a set or offset that doesn't exist.
+pub fn admit_byte(
+    count: usize,
+    rw: &[u8],
+    ro: &[u8],
+    size: usize,
+    set: usize,
+    offset: usize,
+) -> Byte
+    ensures { λ r. ⌜ ByteGated count (now (rw .entry)) (now (ro .entry)) size set offset r ⌝ }
+{
+    if !limits(count, rw, ro) {
+        return Byte::Refused(Refusal::Plain(9));
+    }
+    if size < 784 {
+        return Byte::Refused(Refusal::Plain(8));
+    }
+    let covered = cover(count, rw, ro, offset);
+    match covered {
+        Covered::Refused(r) => Byte::Refused(r),
+        Covered::Nothing => Byte::Refused(Refusal::Plain(10)),
+        Covered::By {
+            ro: in_ro,
+            number: _,
+            id,
+            offset: start,
+        } => {
+            if !((set < 3) & !((set < 2) & in_ro)) {
+                return Byte::Refused(Refusal::Plain(10));
+            }
+            let shape = shape_of(id);
+            Byte::Has(offset - start < shape.parts * shape.width)
+        }
+    }
+}

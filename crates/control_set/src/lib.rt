@@ -1,0 +1,291 @@
+// Setting: the calls on a lent bank of two staged sets and the active set.
+ghost use mathlib.Core.Path.{_≡_};
+ghost use Prim.Native.Nat.{_≤_};
+ghost use lib.ListN.{length};
+ghost use Rattle.rules.specs.declared.Call.{Call};
+ghost use Rattle.rules.specs.Bank.{freshBank, freshStep, bankStep};
+ghost use Rattle.rules.specs.Beside.{weightCall};
+ghost use Rattle.control_set.specs.Gate.{refusedOf, byteRefused};
+
+mod accept; // accepted values
+mod bank; // a field of a bank
+mod field; // a field of a byte
+mod gate; // 9, 8 and 1 to 7
+mod number; // numbers and bits
+
+use crate::accept::accepts;
+use crate::accept::signed;
+use crate::bank::read_field;
+use crate::bank::write_field;
+use crate::gate::Byte;
+use crate::gate::Gate;
+use crate::gate::admit;
+use crate::gate::admit_byte;
+use crate::gate::admit_entry;
+use crate::number::bits_of;
+use crate::number::number_of;
+use crate::number::weight_of;
+use crate::number::wide;
+use descriptor::Found;
+use descriptor::shape_of;
+use rules::Answer;
+use rules::Loaded;
+use rules::Refusal;
+
+// Clears the 784 bytes of a bank.
+fn clear(bank: &mut [u8])
+    requires { ⌜ 784 ≤ length (now bank) ⌝ }
+    ensures { λ _. ⌜ now (bank .exit) ≡ freshBank (now (bank .entry)) ⌝ }
+{
+    let mut i = 0;
+    while i < 784 {
+        bank[i] = 0;
+        i += 1;
+    }
+}
+
+// fresh: clears the bank and answers both entry counts and both lengths.
+pub fn fresh(count: usize, rw: &[u8], ro: &[u8], bank: &mut [u8]) -> Loaded
+    ensures answer { λ r. ⌜ r ≡ freshStep count (now (rw .entry)) (now (ro .entry)) (now (bank .entry)) .0 ⌝ }
+    ensures after { λ _. ⌜ now (bank .exit) ≡ freshStep count (now (rw .entry)) (now (ro .entry)) (now (bank .entry)) .1 ⌝ }
+{
+    let g = admit(count, rw, ro, bank.len());
+    match g {
+        Gate::Refused(r) => Loaded::Refused(r),
+        Gate::Open {
+            rw: rw_count,
+            ro: ro_count,
+            staged: staged_length,
+            active: active_length,
+        } => {
+            clear(bank);
+            Loaded::Accepted {
+                rw_count,
+                ro_count,
+                staged_length,
+                active_length,
+            }
+        }
+    }
+}
+
+// select: stores the AppSel of a lane of a staged set.
+pub fn select(
+    count: usize,
+    rw: &[u8],
+    ro: &[u8],
+    bank: &mut [u8],
+    set: usize,
+    lane: usize,
+    app: usize,
+) -> Answer
+    ensures answer { λ r. ⌜ r ≡ bankStep count (now (rw .entry)) (now (ro .entry)) (Call.Select set lane app) (now (bank .entry)) .0 ⌝ }
+    ensures after { λ _. ⌜ now (bank .exit) ≡ bankStep count (now (rw .entry)) (now (ro .entry)) (Call.Select set lane app) (now (bank .entry)) .1 ⌝ }
+{
+    let g = admit(count, rw, ro, bank.len());
+    if let Gate::Refused(r) = g {
+        return Answer::Refused(r);
+    }
+    if !((set < 3) & ((1 <= lane) & (lane <= 8))) {
+        return Answer::Refused(Refusal::Plain(10));
+    }
+    if set == 2 {
+        return Answer::Refused(Refusal::Plain(11));
+    }
+    if count < app {
+        return Answer::Refused(Refusal::Plain(12));
+    }
+    bank[768 + 8 * set + (lane - 1)] = app as u8;
+    Answer::Yes
+}
+
+// A call that names an entry, refused by the gate.
+fn refused(found: Found) -> Answer
+    ensures { λ r. ⌜ r ≡ refusedOf found ⌝ }
+{
+    match found {
+        Found::In { ro: _, entry: _ } => Answer::Yes,
+        Found::Refused(r) => Answer::Refused(r),
+    }
+}
+
+// write: stores an accepted value in a field of a staged set.
+pub fn write(
+    count: usize,
+    rw: &[u8],
+    ro: &[u8],
+    bank: &mut [u8],
+    set: usize,
+    entry: usize,
+    part: usize,
+    lane: usize,
+    value: i64,
+) -> Answer
+    ensures answer { λ r. ⌜ r ≡ bankStep count (now (rw .entry)) (now (ro .entry)) (Call.Write set entry part lane value) (now (bank .entry)) .0 ⌝ }
+    ensures after { λ _. ⌜ now (bank .exit) ≡ bankStep count (now (rw .entry)) (now (ro .entry)) (Call.Write set entry part lane value) (now (bank .entry)) .1 ⌝ }
+{
+    let found = admit_entry(count, rw, ro, bank.len(), entry);
+    let Found::In {
+        ro: in_ro,
+        entry: e,
+    } = found
+    else {
+        return refused(found);
+    };
+    let shape = shape_of(e.id);
+    if !((set < 3) & ((part < shape.parts) & ((1 <= lane) & (lane <= 8)))) {
+        return Answer::Refused(Refusal::Plain(10));
+    }
+    if (set == 2) | in_ro {
+        return Answer::Refused(Refusal::Plain(11));
+    }
+    if !accepts(e.id, e.codes, value) {
+        return Answer::Refused(Refusal::Plain(12));
+    }
+    let bits = bits_of(shape.width, value);
+    write_field(bank, set, e.offset, part, shape.width, lane, bits);
+    Answer::Yes
+}
+
+// read: answers the number of a field.
+pub fn read(
+    count: usize,
+    rw: &[u8],
+    ro: &[u8],
+    bank: &[u8],
+    set: usize,
+    entry: usize,
+    part: usize,
+    lane: usize,
+) -> Answer
+    ensures answer { λ r. ⌜ r ≡ bankStep count (now (rw .entry)) (now (ro .entry)) (Call.Read set entry part lane) (now (bank .entry)) .0 ⌝ }
+{
+    let found = admit_entry(count, rw, ro, bank.len(), entry);
+    let Found::In {
+        ro: in_ro,
+        entry: e,
+    } = found
+    else {
+        return refused(found);
+    };
+    let shape = shape_of(e.id);
+    if !((set < 3) & ((part < shape.parts) & ((1 <= lane) & (lane <= 8)))) {
+        return Answer::Refused(Refusal::Plain(10));
+    }
+    if (set < 2) & in_ro {
+        return Answer::Refused(Refusal::Plain(11));
+    }
+    let bits = read_field(bank, set, e.offset, part, shape.width, lane);
+    Answer::Number(number_of(signed(e.id), shape.width, bits))
+}
+
+// A call that names a byte, refused by the gate.
+fn byte_refused(gate: Byte) -> Answer
+    ensures { λ r. ⌜ r ≡ byteRefused gate ⌝ }
+{
+    match gate {
+        Byte::Has(_) => Answer::Yes,
+        Byte::Refused(r) => Answer::Refused(r),
+    }
+}
+
+// byte write: each field in a byte of a staged set takes its own bits; gaps become 0.
+pub fn byte_write(
+    count: usize,
+    rw: &[u8],
+    ro: &[u8],
+    bank: &mut [u8],
+    set: usize,
+    offset: usize,
+    value: u8,
+) -> Answer
+    ensures answer { λ r. ⌜ r ≡ bankStep count (now (rw .entry)) (now (ro .entry)) (Call.ByteWrite set offset value) (now (bank .entry)) .0 ⌝ }
+    ensures after { λ _. ⌜ now (bank .exit) ≡ bankStep count (now (rw .entry)) (now (ro .entry)) (Call.ByteWrite set offset value) (now (bank .entry)) .1 ⌝ }
+{
+    let gate = admit_byte(count, rw, ro, bank.len(), set, offset);
+    let Byte::Has(fields) = gate else {
+        return byte_refused(gate);
+    };
+    if set == 2 {
+        return Answer::Refused(Refusal::Plain(11));
+    }
+    if fields {
+        bank[256 * set + offset] = value;
+        return Answer::Yes;
+    }
+    bank[256 * set + offset] = 0;
+    Answer::Yes
+}
+
+// byte read: the byte of a set where it has fields; gaps show 0.
+pub fn byte_read(
+    count: usize,
+    rw: &[u8],
+    ro: &[u8],
+    bank: &[u8],
+    set: usize,
+    offset: usize,
+) -> Answer
+    ensures { λ r. ⌜ r ≡ bankStep count (now (rw .entry)) (now (ro .entry)) (Call.ByteRead set offset) (now (bank .entry)) .0 ⌝ }
+{
+    let gate = admit_byte(count, rw, ro, bank.len(), set, offset);
+    let Byte::Has(shown) = gate else {
+        return byte_refused(gate);
+    };
+    if shown {
+        return Answer::Number(wide(bank[256 * set + offset]));
+    }
+    Answer::Number(0)
+}
+
+// publish: stores an accepted value in a field of an RO entry.
+pub fn publish(
+    count: usize,
+    rw: &[u8],
+    ro: &[u8],
+    bank: &mut [u8],
+    entry: usize,
+    part: usize,
+    lane: usize,
+    value: i64,
+) -> Answer
+    ensures answer { λ r. ⌜ r ≡ bankStep count (now (rw .entry)) (now (ro .entry)) (Call.Publish entry part lane value) (now (bank .entry)) .0 ⌝ }
+    ensures after { λ _. ⌜ now (bank .exit) ≡ bankStep count (now (rw .entry)) (now (ro .entry)) (Call.Publish entry part lane value) (now (bank .entry)) .1 ⌝ }
+{
+    let found = admit_entry(count, rw, ro, bank.len(), entry);
+    let Found::In {
+        ro: in_ro,
+        entry: e,
+    } = found
+    else {
+        return refused(found);
+    };
+    let shape = shape_of(e.id);
+    if !((part < shape.parts) & ((1 <= lane) & (lane <= 8))) {
+        return Answer::Refused(Refusal::Plain(10));
+    }
+    if !in_ro {
+        return Answer::Refused(Refusal::Plain(11));
+    }
+    if !accepts(e.id, e.codes, value) {
+        return Answer::Refused(Refusal::Plain(12));
+    }
+    let bits = bits_of(shape.width, value);
+    write_field(bank, 2, e.offset, part, shape.width, lane, bits);
+    Answer::Yes
+}
+
+// weight: the active number of a lane of a 12h entry, in thousandths.
+pub fn weight(count: usize, rw: &[u8], ro: &[u8], bank: &[u8], entry: usize, lane: usize) -> Answer
+    ensures { λ r. ⌜ r ≡ weightCall count (now (rw .entry)) (now (ro .entry)) (now (bank .entry)) entry lane ⌝ }
+{
+    let found = admit_entry(count, rw, ro, bank.len(), entry);
+    let Found::In { ro: _, entry: e } = found else {
+        return refused(found);
+    };
+    if !((e.id == 0x12) & ((1 <= lane) & (lane <= 8))) {
+        return Answer::Refused(Refusal::Plain(10));
+    }
+    let bits = read_field(bank, 2, e.offset, 0, 8, lane);
+    Answer::Number(weight_of(e.step, number_of(true, 8, bits)))
+}
