@@ -1,10 +1,11 @@
 /* The versatile control set engine: C interface of libvcs.a.
 
    Strings are lent as a pointer and a length; NULL with length 0 is an empty string. No call changes a byte of a string.
-   A bank is lent likewise, of 784 bytes or more; no call changes a byte beyond 784, and a refused call changes none.
+   A bank is lent likewise and overlaps no string; under 784 bytes it is refused with 8. No call changes a byte beyond 784,
+   and a refused call changes none.
    Every number may have any value: what doesn't exist is refused. In an answer, `refusal` is 0 if the call is accepted,
-   otherwise document 01's number; `at` is then the entry that 1 to 7 name, or the lane that 13 and 14 name, else 0. All
-   other members are 0 in a refused answer. The library needs `memset` from the C library, nothing else. */
+   otherwise document 01's number; `at` is then the entry that 1 to 7 name, else 0. All other members are 0 in a refused
+   answer. The library needs `memset` from the C library, nothing else. */
 #ifndef VCS_H
 #define VCS_H
 
@@ -35,7 +36,7 @@ typedef struct {
     size_t offset;
 } vcs_located;
 
-/* Where a field stands in a set: its first byte, and its lowest bit there, 0 to 7. */
+/* Where a field stands in a set: its byte, and its lowest bit there, 0 to 7. */
 typedef struct {
     size_t refusal;
     size_t at;
@@ -53,7 +54,8 @@ typedef struct {
     size_t lane;
 } vcs_owned;
 
-/* What a call on a bank says: yes if all are 0, or the number that it answers. */
+/* What a call on a bank says: `number` is what read, byte read and weight answer; of the other calls it is 0, and
+   `refusal` 0 means yes. */
 typedef struct {
     size_t refusal;
     size_t at;

@@ -79,24 +79,48 @@ const WHOLE: [&str; 2] = [
     "11 05 0F 10 00 12 07 0F 08 00 00 00 12 07 0F 08 00 00 01 12 07 0F 08 00 00 02 12 07 0F 08 00 00 03",
 ];
 
-/// Compares byte write and byte read for every byte value at every staged offset, and weight for every number, step and
-/// lane.
+/// Compares byte write and byte read for every byte value at every offset of both staged sets, byte read of the active set
+/// as well, and weight for every number, step and lane.
 pub fn compare_whole(report: &mut Report) {
     let [rw, ro] = WHOLE.map(fixed::hex);
     let case = Case { count: 4, rw: &rw, ro: &ro };
     let aim = Aim::new(&case);
     let bank = &mut Bank::ones();
     for byte in 0..=0xFF {
-        for offset in 0..aim.loaded.staged_length {
-            let set = offset % 2;
-            bank::compare(report, &case, bank, Call::Listed(ByteWrite { set, offset, byte }));
-            bank::compare(report, &case, bank, Call::Listed(ByteRead { set, offset }));
+        for set in 0..2 {
+            for offset in 0..aim.loaded.staged_length {
+                bank::compare(report, &case, bank, Call::Listed(ByteWrite { set, offset, byte }));
+                bank::compare(report, &case, bank, Call::Listed(ByteRead { set, offset }));
+            }
         }
         for &entry in &aim.weights {
             for lane in 1..=8 {
                 let value = i64::from(byte as i8);
                 bank::compare(report, &case, bank, Call::Listed(Publish { entry, part: 0, lane, value }));
                 bank::compare(report, &case, bank, Call::Weight { entry, lane });
+            }
+        }
+        for offset in 0..aim.loaded.active_length {
+            bank::compare(report, &case, bank, Call::Listed(ByteRead { set: 2, offset }));
+        }
+    }
+}
+
+/// Compares write for every value from -1 to 16, of the IDs with a code mask, for every mask of one bit, of none and of all.
+pub fn compare_codes(report: &mut Report) {
+    let bank = &mut Bank::ones();
+    for mask in (0..16).map(|bit| 1u16 << bit).chain([0, 0xFFFF]) {
+        let [high, low] = mask.to_be_bytes();
+        let rw =
+            [&[4, 7, 15, 4, 0, high, low][..], &[7, 8, 15, 8, 0, 0, high, low], &[8, 7, 15, 4, 0, high, low]].concat();
+        let case = Case { count: 4, rw: &rw, ro: &[] };
+        for entry in 0..3 {
+            for part in 0..2 {
+                for value in -1..=16 {
+                    let lane = 1 + (value & 7) as usize;
+                    let call = Write { set: entry % 2, entry, part, lane, value };
+                    bank::compare(report, &case, bank, Call::Listed(call));
+                }
             }
         }
     }

@@ -74,6 +74,7 @@ fn compare() -> bool {
     }
     lists::compare(&mut report);
     lists::compare_whole(&mut report);
+    lists::compare_codes(&mut report);
     if program::exists() {
         program::compare(&mut report);
     } else {
