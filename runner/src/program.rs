@@ -18,7 +18,10 @@ pub static CALL: Row = Row { name: "map program", numbers: &[0, 1, 2, 3, 4, 5, 6
 
 const PROGRAM: &str = concat!(env!("CARGO_MANIFEST_DIR"), "/../target/bin/map");
 
-/// Runs for each number that the program can answer.
+/// Generated maps that the program prints.
+const MAPS: u64 = 20_000;
+
+/// Further runs for each number that the program can answer.
 const RUNS: usize = 60;
 
 /// What the program writes.
@@ -49,6 +52,9 @@ pub fn compare(report: &mut Report) {
         compare_input(report, input, false, known);
     }
     compare_input(report, &[], false, None);
+    for seed in 0..MAPS {
+        compare_input(report, &well_formed(&any_map(&Random::new(seed))), false, None);
+    }
     let random = Random::new(1);
     for run in 0..RUNS {
         for number in 0..=7 {
