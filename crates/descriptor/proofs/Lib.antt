@@ -3,6 +3,7 @@ pub mod Table
 pub mod Chain
 pub mod Scan
 pub mod Both
+pub mod Seeks
 pub mod Locates
 pub mod Wides
 pub mod Looks

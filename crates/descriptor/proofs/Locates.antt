@@ -2,15 +2,15 @@
 use mathlib.Core.Path.{_≡_, refl, sym, ap, _∙_}
 use mathlib.Core.Bool.{Bool, true, false, not, cond}
 use mathlib.Core.List.{List, []}
-use Prim.Native.Nat.{ℕ, _+_, _≤_, _<_}
+use Prim.Native.Nat.{ℕ, _+_, _-_, _≤_, _<_}
 use native.Mathlib.Omega.{arith}
 use lib.ListN.{length, take, drop, length-append}
 use borrow.Author.Tests.{lt-ltb, le-ltb}
-use Rattle.rules.specs.declared.Entry.{Entry}
 use Rattle.rules.specs.declared.Refusal.{Refusal}
 use Rattle.rules.specs.declared.Refusal.the-variants.{Plain as plain}
 use Rattle.rules.specs.declared.Loaded.the-variants.{Accepted as accepted, Refused as rejected}
 use Rattle.rules.specs.declared.Answer.the-variants.{Yes as saysYes, Refused as refused}
+use Rattle.rules.specs.Descriptor.{maskBytes, byteAt}
 use Rattle.rules.specs.Load.{Map, loadOf, rwEntries, roEntries, entriesOf, mapOf}
 use Rattle.rules.specs.Place.{entry, isRW}
 use Rattle.rules.specs.Refuse.{Verdict, passes, refuses}
@@ -18,10 +18,14 @@ use Rattle.rules.specs.Beside.{entryVerdict, answered, entryAnswer, ownBytes, p
 use Rattle.rules.specs.Demands.{Accepted}
 use Rattle.rules.proofs.Orders.{order-refused, order-accepted}
 use Rattle.rules.proofs.Walks.{load-accepted}
+use Rattle.rules.proofs.EntryHeads.{rw-head, ro-head}
 use Rattle.rules.proofs.EntryParts.{entry-part, verdict-passes}
+use Rattle.descriptor.specs.declared.search.Mark.{Mark}
 use Rattle.descriptor.specs.declared.Located.{Located}
 use Rattle.descriptor.specs.declared.Located.the-variants.{At as at, Refused as nowhere}
 use Rattle.descriptor.specs.Locate.{located, locatedOf}
+use Rattle.descriptor.specs.Seek.{markAfter, Seeking}
+use Rattle.descriptor.proofs.Seeks.{markOf, seek-rw, seeking-rw, seek-ro, seeking-ro}
 
 module _ (count : ℕ) (first last : List ℕ) (e : ℕ) where
   pub located-refused : (r : Refusal) → loadOf count first last ≡ rejected r → nowhere r ≡ locatedOf count first last e
@@ -46,24 +50,52 @@ module _ (count : ℕ) (first last : List ℕ) (e : ℕ) where
     unfolding entryVerdict
     verdict-found l = order-accepted count first last ok _ ∙ rw (lt-ltb e (length (mapOf count first last .entries)) (rw all-count l)) refl
 
-    pub located-rw : e < n → (x : Entry) → entry (mapOf count first last) e ≡ x → at false (x .start) (x .length) (x .offset) ≡ locatedOf count first last e
-    unfolding locatedOf
-    located-rw l x q = rw (verdict-found (omega arith), lt-ltb e (mapOf count first last .rwCount) (rw rw-count l), q) refl
+    staged-is : mapOf count first last .staged ≡ c
+    unfolding mapOf
+    staged-is = sym (load-accepted count first last n k c t h .staged)
 
-    pub located-ro : n ≤ e → e < n + k → (x : Entry) → entry (mapOf count first last) e ≡ x → at true (x .start) (x .length) (x .offset) ≡ locatedOf count first last e
-    unfolding locatedOf
-    located-ro l u x q = rw (verdict-found u, le-ltb e (mapOf count first last .rwCount) (rw rw-count l), q) refl
+    module _ (l : e < n) where
+      here : e < mapOf count first last .rwCount
+      here = rw rw-count l
 
-    -- an entry that is found is in its string, with its second byte
-    pub inside-rw : e < n → (x : Entry) → entry (mapOf count first last) e ≡ x → x .start + 1 < length first
-    inside-rw l x q =
-        let p = rw (lt-ltb e (mapOf count first last .rwCount) (rw rw-count l), q) at (entry-part count first last ok e (rw all-count (omega arith))) in
-        omega (arith, p .least, p .inside)
+      pub seeks-rw : Seeking (maskBytes count) first 0 e
+      seeks-rw = seeking-rw count first last ok e here
 
-    pub inside-ro : n ≤ e → e < n + k → (x : Entry) → entry (mapOf count first last) e ≡ x → x .start + 1 < length last
-    inside-ro l u x q =
-        let p = rw (le-ltb e (mapOf count first last .rwCount) (rw rw-count l), q) at (entry-part count first last ok e (rw all-count u)) in
-        omega (arith, p .least, p .inside)
+      module _ (mark : Mark) (q : mark ≡ markAfter (maskBytes count) first 0 e) where
+        -- the entry stands at the mark, with its second byte
+        pub inside-rw : mark .at + 1 < length first
+        inside-rw = rw (q, seek-rw count first last ok e here) (omega (arith, rw-head count first last ok e here .room))
+
+        pub located-rw : at false (mark .at) (byteAt first (mark .at + 1)) (mark .sum) ≡ locatedOf count first last e
+        unfolding locatedOf
+        located-rw =
+            let x = entry (mapOf count first last) e in
+            let z : x .length ≡ byteAt first (x .start + 1) = ap (λ y. y .length) (rw-head count first last ok e here .says) in
+            rw (verdict-found (omega arith), lt-ltb e (mapOf count first last .rwCount) here, q, seek-rw count first last ok e here, ← z) refl
+
+    module _ (l : n ≤ e) (u : e < n + k) where
+      past-rw : mapOf count first last .rwCount ≤ e
+      past-rw = rw rw-count l
+
+      there : e < length (mapOf count first last .entries)
+      there = rw all-count u
+
+      pub seeks-ro : Seeking (maskBytes count) last c (e - n)
+      seeks-ro = rw (rw-count, staged-is) at (seeking-ro count first last ok e past-rw there)
+
+      module _ (mark : Mark) (q : mark ≡ markAfter (maskBytes count) last c (e - n)) where
+        mark-is : mark ≡ markOf (entry (mapOf count first last) e)
+        mark-is = q ∙ (rw (rw-count, staged-is) at (seek-ro count first last ok e past-rw there))
+
+        pub inside-ro : mark .at + 1 < length last
+        inside-ro = rw mark-is (omega (arith, ro-head count first last ok e past-rw there .room))
+
+        pub located-ro : at true (mark .at) (byteAt last (mark .at + 1)) (mark .sum) ≡ locatedOf count first last e
+        unfolding locatedOf
+        located-ro =
+            let x = entry (mapOf count first last) e in
+            let z : x .length ≡ byteAt last (x .start + 1) = ap (λ y. y .length) (ro-head count first last ok e past-rw there .says) in
+            rw (verdict-found u, le-ltb e (mapOf count first last .rwCount) past-rw, mark-is, ← z) refl
 
     pub located-10 : n + k ≤ e → nowhere (plain 10) ≡ locatedOf count first last e
     unfolding locatedOf entryVerdict

@@ -3,6 +3,7 @@ pub mod Rows
 pub mod Steps
 pub mod Walks
 pub mod Locate
+pub mod Seek
 pub mod Wide
 pub mod Find
 pub mod Cover

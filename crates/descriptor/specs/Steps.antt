@@ -2,9 +2,9 @@
 use mathlib.Core.Path.{_≡_}
 use mathlib.Core.Bool.{Bool, true, false, _&&_, not, cond}
 use mathlib.Core.List.{List}
-use Prim.Native.Nat.{ℕ, _+_, _≤_, _<_}
+use Prim.Native.Nat.{ℕ, _+_, _/_, _%_, _≤_, _<_}
 use lib.ListN.{length}
-use lib.Dec.{leb, eqb}
+use lib.Dec.{ltb, leb, eqb}
 use Rattle.rules.specs.declared.State.{State}
 use Rattle.rules.specs.declared.Decoded.{Decoded}
 use Rattle.rules.specs.declared.Decoded.the-variants.{Entry as decoded, Refused as failed}
@@ -21,12 +21,12 @@ steppedOf st (failed n) = stops n
 
 -- the step byte by the number of the extras
 unfoldable pub stepBy : ℕ → List ℕ → ℕ → ℕ
-stepBy extras s at = cond (eqb extras 3) (byteAt s (at + 1)) 0
+stepBy extras s at = cond (ltb 2 extras) (byteAt s (at + 1)) 0
 
--- the number of the side whose IDs may not stand in a string
-abbrev pub otherOf : Bool → ℕ
-otherOf true = 1
-otherOf false = 2
+-- whether an ID may stand in a string, by the number of its side
+abbrev pub standsBy : ℕ → Bool → Bool
+standsBy side true = eqb (side / 2 % 2) 1
+standsBy side false = eqb (side % 2) 1
 
 -- the test of 6
 abbrev pub lateBy : ℕ → Bool → Bool → Bool

@@ -12,21 +12,21 @@ ghost use Rattle.descriptor.specs.Cover.{coverOf};
 
 mod rows; // constant rows by ID class
 mod step; // one entry: the checks 1 to 7
-mod walk; // one string, and both
+mod walk; // one string
 mod wide; // one entry: all of its bytes
-mod search; // the entry whose space covers a byte
+mod search; // an entry by its number, and by a byte of its space
 mod text; // the map program's text
 
 use crate::rows::CLASSES;
 use crate::rows::ROWS;
 use crate::rows::row_of;
 use crate::search::look;
+use crate::search::seek;
 use crate::step::byte_at;
 use crate::text::put_refused;
 use crate::text::put_strings;
 use crate::walk::in_limits;
 use crate::walk::mask_bytes;
-use crate::walk::read_both;
 use crate::walk::refused;
 use crate::walk::scan;
 use crate::wide::entry_at;
@@ -64,11 +64,11 @@ pub fn load(count: usize, rw: &[u8], ro: &[u8]) -> Loaded
     let a = mask_bytes(count);
     let classes = CLASSES;
     let table = ROWS;
-    let first = scan(&classes, &table, false, a, rw, 0, 0, false, 0).walked;
+    let first = scan(&classes, &table, false, a, rw, 0, 0, false);
     let Walked::Ended(m) = first else {
         return refused(first);
     };
-    let last = scan(&classes, &table, true, a, ro, m.number, m.sum, m.media, 0).walked;
+    let last = scan(&classes, &table, true, a, ro, m.number, m.sum, m.media);
     let Walked::Ended(e) = last else {
         return refused(last);
     };
@@ -84,32 +84,33 @@ pub fn load(count: usize, rw: &[u8], ro: &[u8]) -> Loaded
 pub fn locate(count: usize, rw: &[u8], ro: &[u8], entry: usize) -> Located
     ensures { λ r. ⌜ r ≡ locatedOf count (now (rw .entry)) (now (ro .entry)) entry ⌝ }
 {
-    let both = read_both(count, rw, ro, entry);
-    let loaded = both.loaded;
+    let loaded = load(count, rw, ro);
     match loaded {
         Loaded::Refused(r) => Located::Refused(r),
         Loaded::Accepted {
             rw_count,
             ro_count,
-            staged_length: _,
+            staged_length,
             active_length: _,
         } => {
+            let a = mask_bytes(count);
             if entry < rw_count {
-                let at = both.first.at;
+                let mark = seek(a, rw, 0, entry);
                 return Located::At {
                     ro: false,
-                    start: at,
-                    length: rw[at + 1] as usize,
-                    offset: both.first.sum,
+                    start: mark.at,
+                    length: rw[mark.at + 1] as usize,
+                    offset: mark.sum,
                 };
             }
-            if entry - rw_count < ro_count {
-                let at = both.last.at;
+            let n = entry - rw_count;
+            if n < ro_count {
+                let mark = seek(a, ro, staged_length, n);
                 return Located::At {
                     ro: true,
-                    start: at,
-                    length: ro[at + 1] as usize,
-                    offset: both.last.sum,
+                    start: mark.at,
+                    length: ro[mark.at + 1] as usize,
+                    offset: mark.sum,
                 };
             }
             Located::Refused(Refusal::Plain(10))

@@ -1,13 +1,38 @@
-// The search for the entry whose space covers a byte, once the load has accepted the strings.
+// The search for an entry by its number, and by a byte that its space covers, once the load has accepted the strings.
 ghost use mathlib.Core.Path.{_≡_};
-ghost use Prim.Native.Nat.{_≤_, _<_, _+_};
+ghost use Prim.Native.Nat.{_<_, _+_};
 ghost use lib.ListN.{length};
 ghost use Rattle.rules.specs.Load.{mapOf};
+ghost use Rattle.descriptor.specs.Seek.{markAfter, Seeking};
 ghost use Rattle.descriptor.specs.Cover.{headAt, headIn, HasHead, Looking, coverIn};
 use crate::Covered;
 use crate::walk::mask_bytes;
 
-// What the search reads of an entry: its ID, Length and MemoryLength.
+// Where an entry stands: its start in its string, and its offset in a set.
+pub struct Mark {
+    pub at: usize,
+    pub sum: usize,
+}
+
+// Past n entries of a string, whose spaces begin at a sum.
+pub fn seek(a: usize, s: &[u8], sum: usize, n: usize) -> Mark
+    requires { ⌜ Seeking a (now s) sum n ⌝ }
+    ensures { λ r. ⌜ r ≡ markAfter a (now (s .entry)) sum n ⌝ }
+{
+    let mut mark = Mark { at: 0, sum };
+    let mut i = 0;
+    while i < n {
+        let at = mark.at;
+        mark = Mark {
+            at: at + (s[at + 1] as usize),
+            sum: mark.sum + (s[at + 2 + a] as usize),
+        };
+        i += 1;
+    }
+    mark
+}
+
+// What the search for a byte reads of an entry: its ID, Length and MemoryLength.
 pub struct Head {
     pub id: u8,
     pub length: u8,

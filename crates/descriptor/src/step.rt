@@ -1,9 +1,9 @@
 // One entry of a walk: the checks 1 to 7, once for every walk.
 ghost use mathlib.Core.Path.{_≡_};
-ghost use Prim.Native.Nat.{_≤_, _<_, _+_};
-ghost use lib.ListN.{length, getD};
-ghost use Rattle.rules.specs.Descriptor.{byteAt, entryAt, contentChecks, decodeAt};
-ghost use Rattle.descriptor.specs.Steps.{steppedOf, stepBy, otherOf, lateBy, Walking, Standing};
+ghost use Prim.Native.Nat.{_<_, _+_};
+ghost use lib.ListN.{length};
+ghost use Rattle.rules.specs.Descriptor.{byteAt, mediaSide, entryAt, contentChecks, decodeAt};
+ghost use Rattle.descriptor.specs.Steps.{steppedOf, stepBy, standsBy, lateBy, Walking, Standing};
 use crate::rows::row_of;
 use rules::State;
 
@@ -24,24 +24,35 @@ pub fn byte_at(s: &[u8], i: usize) -> u8
 }
 
 // The step byte of an entry whose extras begin at a place, 0 where its ID has none.
-pub fn step_at(extras: u32, s: &[u8], at: usize) -> u8
-    requires { ⌜ at ≤ 1000 ⌝ }
+fn step_in(extras: u32, s: &[u8], at: usize) -> u8
+    requires { ⌜ (2 < extras → at + 1 < length (now s)) ⌝ }
     ensures { λ r. ⌜ r ≡ stepBy extras (now (s .entry)) at ⌝ }
 {
-    if extras == 3 {
-        return byte_at(s, at + 1);
+    if 2 < extras {
+        return s[at + 1];
     }
     0
 }
 
-// The side of the IDs that may not stand in a string: RO in the RW string, RW in the RO string.
-fn other(in_ro: bool) -> u32
-    ensures { λ r. ⌜ r ≡ otherOf in_ro ⌝ }
+// Whether an entry with its PropertyFlags at a place is media side. IDs with no parts have none.
+fn media_at(parts: u32, s: &[u8], at: usize) -> bool
+    requires { ⌜ (0 < parts → at < length (now s)) ⌝ }
+    ensures { λ r. ⌜ r ≡ mediaSide parts (byteAt (now (s .entry)) at) ⌝ }
+{
+    if 0 < parts {
+        return s[at] % 2 == 1;
+    }
+    false
+}
+
+// Whether an ID of a side (1 RW, 2 RO, 3 both) may stand in a string.
+fn stands(side: u32, in_ro: bool) -> bool
+    ensures { λ r. ⌜ r ≡ standsBy side in_ro ⌝ }
 {
     if in_ro {
-        return 1;
+        return side / 2 % 2 == 1;
     }
-    2
+    side % 2 == 1
 }
 
 // 6: a host-side ID of 02h to 08h after a media-side table entry.
@@ -60,20 +71,18 @@ fn content(row: u32, in_ro: bool, a: usize, s: &[u8], st: State) -> Stepped
     ensures { λ r. ⌜ r ≡ steppedOf st (contentChecks in_ro st (entryAt a (now (s .entry)) st)) ⌝ }
 {
     let at = st.at;
-    if row / 0x1000000 % 16 == other(in_ro) {
+    if !stands(row / 0x1000000 % 16, in_ro) {
         return Stepped::Refused(3);
     }
     let memory = s[at + 2 + a] as usize;
     if memory < ((row / 0x100 % 256) as usize) {
         return Stepped::Refused(4);
     }
-    if 3 < step_at(row % 16, s, at + 4 + a) {
+    if 3 < step_in(row / 0x10000000, s, at + 4 + a) {
         return Stepped::Refused(5);
     }
-    let id = s[at];
-    let flags = (row / 0x10000000) as usize;
-    let media = (flags == 1) & (s[at + 2 + a + flags] % 2 == 1);
-    if late_host(id, media, st.media) {
+    let media = media_at(row / 0x100000 % 16, s, at + 3 + a);
+    if late_host(s[at], media, st.media) {
         return Stepped::Refused(6);
     }
     let sum = st.sum + memory;
@@ -101,16 +110,15 @@ pub fn step(
     ensures { λ r. ⌜ r ≡ steppedOf st (decodeAt in_ro a (now (s .entry)) st) ⌝ }
 {
     let at = st.at;
-    let left = s.len() - at;
-    if left == 1 {
+    if at + 1 == s.len() {
         return Stepped::Refused(1);
     }
     let length = s[at + 1] as usize;
-    if left < length {
+    if s.len() < at + length {
         return Stepped::Refused(1);
     }
     let row = row_of(classes, table, s[at]);
-    if length < ((row / 0x10 % 16) as usize) + a {
+    if length < ((row % 256) as usize) + a {
         return Stepped::Refused(2);
     }
     content(row, in_ro, a, s, st)

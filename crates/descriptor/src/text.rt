@@ -10,12 +10,12 @@ ghost use Rattle.rules.specs.Demands.{Accepted};
 ghost use Rattle.rules.specs.MapProgram.{decimal, endLine, refusedLine, mapText};
 ghost use Rattle.descriptor.specs.Walks.{Ready};
 ghost use Rattle.descriptor.specs.Text.{Put, Printed, entryLine, Printable, Listing};
+use crate::load;
 use crate::rows::CLASSES;
 use crate::rows::ROWS;
 use crate::step::Stepped;
 use crate::step::step;
 use crate::walk::mask_bytes;
-use crate::walk::read_both;
 use rules::Loaded;
 use rules::Refusal;
 use rules::State;
@@ -188,8 +188,7 @@ fn put_map(count: usize, rw: &[u8], ro: &[u8], out: &mut [u8; 1024]) -> usize
 pub fn put_strings(count: usize, rw: &[u8], ro: &[u8], out: &mut [u8; 1024]) -> usize
     ensures { λ n. ⌜ Printed (mapText (loadOf count (now (rw .entry)) (now (ro .entry))) (entriesOf count (now (rw .entry)) (now (ro .entry)))) (now (out .entry)) n (now (out .exit)) ⌝ }
 {
-    let both = read_both(count, rw, ro, 0);
-    let loaded = both.loaded;
+    let loaded = load(count, rw, ro);
     match loaded {
         Loaded::Refused(r) => put_refused(out, r),
         Loaded::Accepted {

@@ -2,12 +2,12 @@
 ghost use mathlib.Core.Path.{_≡_};
 ghost use Prim.Native.Nat.{_≤_, _<_};
 ghost use Rattle.rules.specs.Descriptor.{byteAt, highFirst, entryAt};
+ghost use Rattle.descriptor.specs.Steps.{stepBy};
 ghost use Rattle.descriptor.specs.Wide.{codesBy, standingAt};
 use crate::rows::CLASSES;
 use crate::rows::ROWS;
 use crate::rows::row_of;
 use crate::step::byte_at;
-use crate::step::step_at;
 use rules::Entry;
 
 // A byte of a string as a number, 0 past its end.
@@ -44,6 +44,17 @@ fn codes_at(extras: u32, s: &[u8], at: usize) -> usize
     0
 }
 
+// The step byte as the walks read it, 0 past the end of a string.
+fn step_at(extras: u32, s: &[u8], at: usize) -> u8
+    requires { ⌜ at ≤ 1000 ⌝ }
+    ensures { λ r. ⌜ r ≡ stepBy extras (now (s .entry)) at ⌝ }
+{
+    if 2 < extras {
+        return byte_at(s, at + 1);
+    }
+    0
+}
+
 // The entry that starts at a place of a string, with its offset in a set.
 pub fn entry_at(a: usize, s: &[u8], start: usize, offset: usize) -> Entry
     requires { ⌜ (1 ≤ a) × (a ≤ 2) × (start ≤ 120) ⌝ }
@@ -54,7 +65,7 @@ pub fn entry_at(a: usize, s: &[u8], start: usize, offset: usize) -> Entry
     let id = byte_at(s, start);
     let row = row_of(&classes, &table, id);
     let flags = byte_at(s, start + 3 + a);
-    let step = step_at(row % 16, s, start + 4 + a);
+    let step = step_at(row / 0x10000000, s, start + 4 + a);
     Entry {
         id: id as usize,
         start,
@@ -62,7 +73,7 @@ pub fn entry_at(a: usize, s: &[u8], start: usize, offset: usize) -> Entry
         mask: high_first(s, start + 2, a),
         memory: number_at(s, start + 2 + a),
         media: (0 < row / 0x100000 % 16) & (flags % 2 == 1),
-        codes: codes_at(row % 16, s, start + 4 + a),
+        codes: codes_at(row / 0x10000000, s, start + 4 + a),
         step: step as usize,
         offset,
     }

@@ -1,6 +1,6 @@
 -- `load` meets its contract: the two walks are those of the rules.
 use borrow.Author.Needs.{needs}
-use mathlib.Core.Path.{_≡_, refl, sym, ap, _∙_}
+use mathlib.Core.Path.{_≡_, refl, sym, _∙_}
 use mathlib.Core.Bool.{true, false}
 use Prim.Native.Nat.{ℕ, _≤_}
 use native.Mathlib.Omega.{arith}
@@ -35,8 +35,8 @@ sizes c =
     record { first = leb→le _ _ z; last = leb→le _ _ w }
 
 -- the walks are those of the rules, with their mask bytes
-first-walk : (c : tie.After-scan) → let g = c .before .before .before .before .before .before .before .before .args in walkOf false (maskBytes (g .count)) (now (g .rw)) start ≡ c .scan .result .walked
-first-walk c = rw (← c .before .before .before .mask-bytes .ensures .0) (sym (c .scan .ensures .0))
+first-walk : (c : tie.After-scan) → let g = c .before .before .before .before .before .before .before .before .args in walkOf false (maskBytes (g .count)) (now (g .rw)) start ≡ c .scan .result
+first-walk c = rw (← c .before .before .before .mask-bytes .ensures .0) (sym (c .scan .ensures))
 
 -- the state at the end of the RW string
 middle : (c : tie.After-known-told) → let g = c .before .before .before .before .before .before .before .before .before .before .before .args in walkOf false (maskBytes (g .count)) (now (g .rw)) start ≡ ended (c .before .first .given .0 .0)
@@ -55,8 +55,8 @@ ended-at c =
 second-walk : (c : tie.After-scan2) →
     let k = c .before .before .before in
     let g = k .before .before .before .before .before .before .before .before .before .before .before .args in
-    walkOf true (maskBytes (g .count)) (now (g .ro)) (intoRO (k .before .first .given .0 .0)) ≡ c .scan2 .result .walked
-second-walk c = rw (← c .before .before .before .before .before .before .before .before .before .mask-bytes .ensures .0) (sym (c .scan2 .ensures .0))
+    walkOf true (maskBytes (g .count)) (now (g .ro)) (intoRO (k .before .first .given .0 .0)) ≡ c .scan2 .result
+second-walk c = rw (← c .before .before .before .before .before .before .before .before .before .mask-bytes .ensures .0) (sym (c .scan2 .ensures))
 
 -- the state at the end of the RO string
 last : (c : tie.After-known-told2) →
@@ -143,8 +143,8 @@ returns-3 c =
     rw q (sym (load-strings (g .count) (now (g .rw)) (now (g .ro)) (fine (u .before .before .before .before .before .before .before))
     ∙ strings-ro-refused (g .count) (now (g .rw)) (now (g .ro)) _ (middle u) _ (second-walk k2 ∙ t .enum-told2 .given .1)))
 
-sub-t21 : tie.Need-sub-t21
-sub-t21 c =
+sub-t20 : tie.Need-sub-t20
+sub-t20 c =
     let e = c .before .before in
     let u = e .before .before .before .before .before .before in
     omega (arith, walk-counts _ _ _ (intoRO (u .before .first .given .0 .0)) _ (ended-at u .sum) (last e) .0)
@@ -173,5 +173,5 @@ load-spec =
     enum-told-2
     refused-requires-2
     returns-3
-    sub-t21
+    sub-t20
     returns-4)

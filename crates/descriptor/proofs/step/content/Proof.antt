@@ -1,25 +1,36 @@
 -- `content` meets its contract: each of its tests is the rules' test of that check.
 use borrow.Author.Needs.{needs}
-use mathlib.Core.Path.{_≡_, refl, sym, _∙_}
+use mathlib.Core.Path.{_≡_, refl, sym, ap, _∙_}
 use mathlib.Core.Bool.{false, not}
 use Prim.Native.Nat.{_+_, _<_}
 use native.Mathlib.Omega.{arith}
 use lib.ListN.{getD}
 use lib.Dec.{ltb}
 use denote.Ref.{now}
-use borrow.Author.Tests.{lt-ltb, le-ltb, eq-eqb, ne-eqb}
+use borrow.Author.Tests.{lt-ltb, le-ltb}
 use Rattle.rules.specs.Parameter.{rowOf}
 use Rattle.rules.specs.declared.Decoded.{Decoded}
-use Rattle.rules.specs.Descriptor.{byteAt, stepOf, mayStand, refuse, contentChecks}
+use Rattle.rules.specs.Descriptor.{byteAt, stepOf, mediaSide, mayStand, refuse, contentChecks}
 use Rattle.descriptor.specs.declared.step.Stepped.{Stepped}
 use Rattle.descriptor.specs.Steps.{steppedOf}
-use Rattle.descriptor.proofs.Chain.{pass, stop, rooms, media-is, side-is, needed-is, step-is}
+use Rattle.descriptor.proofs.Chain.{pass, stop, side-is, memory-in, flags-in, step-in, media-is, needed-is, step-is}
 use Rattle.descriptor.proofs.step.content.Statement.{statement}
 use Rattle.descriptor.proofs.step.content.Tie as tie
 
+-- what the functions that it calls answer, by document 01's table
+standing : (c : tie.After-stands) → let g = c .before .before .args in mayStand (rowOf (byteAt (now (g .s)) (g .st .at)) .side) (g .in-ro) ≡ c .stands .result
+standing c = let b = c .before .before in sym (c .stands .ensures ∙ side-is (b .pre) (b .args .in-ro))
+
+media : (c : tie.After-media-at) →
+    let g = c .before .before .before .before .before .before .before .before .args in
+    c .media-at .result ≡ mediaSide (rowOf (byteAt (now (g .s)) (g .st .at)) .parts) (byteAt (now (g .s)) (g .st .at + 3 + g .a))
+media c =
+    let b = c .before .before .before .before .before .before .before .before in
+    c .media-at .ensures ∙ media-is (b .pre) (byteAt (now (b .args .s)) (b .args .st .at + 3 + b .args .a))
+
 -- what each check that was passed says
 three : (c : tie.Else1) → let g = c .before .before .before .args in not (mayStand (rowOf (byteAt (now (g .s)) (g .st .at)) .side) (g .in-ro)) ≡ false
-three c = let b = c .before .before .before in sym (side-is (b .pre) (b .args .in-ro)) ∙ rw (← c .before .other .ensures) (ne-eqb _ _ (c .if1 .left))
+three c = ap not (standing (c .before)) ∙ c .if1 .left
 
 four : (c : tie.Else2) → let g = c .before .before .before .before .before .args in ltb (byteAt (now (g .s)) (g .st .at + 2 + g .a)) (rowOf (byteAt (now (g .s)) (g .st .at)) .needed) ≡ false
 four c = rw (← needed-is (c .before .before .before .before .before .pre)) (le-ltb _ _ (c .if2 .left))
@@ -27,7 +38,7 @@ four c = rw (← needed-is (c .before .before .before .before .before .pre)) (le
 five : (c : tie.Else3) → let g = c .before .before .before .before .before .before .before .args in ltb 3 (stepOf (rowOf (byteAt (now (g .s)) (g .st .at)) .extras) (now (g .s)) (g .st .at + 4 + g .a)) ≡ false
 five c =
     let b = c .before .before .before .before .before .before .before in
-    rw (← step-is (b .pre) (b .args .st .at + 4 + b .args .a), ← c .before .step-at .ensures) (le-ltb _ _ (c .if3 .left))
+    rw (← step-is (b .pre) (b .args .st .at + 4 + b .args .a), ← c .before .step-in .ensures) (le-ltb _ _ (c .if3 .left))
 
 -- the byte at 2 + A
 memory-lt : (c : tie.After-shared-slice-known2) → let g = c .before .before .before .before .args in getD (now (g .s)) (g .st .at + 2 + g .a) 0 < 256
@@ -35,7 +46,7 @@ memory-lt c = let g = c .before .before .before .before .args in c .shared-slice
 
 -- the checks before 6
 past-five :
-    (c : tie.After-shared-slice-known4) →
+    (c : tie.After-shared-slice-known3) →
     let g = c .before .before .before .before .before .before .before .before .before .args in
     (r : Stepped) (d : Decoded)
     → r ≡ steppedOf (g .st) d
@@ -46,12 +57,12 @@ past-five c r d h =
     let e1 = e2 .before .before in
     pass _ _ _ (three e1) (pass _ _ _ (four e2) (pass _ _ _ (five e3) h))
 
-other-requires : tie.Need-other-requires
-other-requires c κs = search needs
+stands-requires : tie.Need-stands-requires
+stands-requires c κs = search needs
 
 returns : tie.Need-returns
 unfolding contentChecks
-returns c = let b = c .before .before .before in stop _ _ _ (sym (side-is (b .pre) (b .args .in-ro)) ∙ rw (← c .before .other .ensures) (eq-eqb _ _ (c .if1 .taken)))
+returns c = stop _ _ _ (ap not (standing (c .before)) ∙ c .if1 .taken)
 
 add-memory : tie.Need-add-memory
 add-memory c = search needs
@@ -60,7 +71,7 @@ add-memory-2 : tie.Need-add-memory-2
 add-memory-2 c = search needs
 
 shared-slice-read-memory : tie.Need-shared-slice-read-memory
-shared-slice-read-memory c = let b = c .before .before .before .before in omega (arith, rooms (b .pre), b .pre .room)
+shared-slice-read-memory c = memory-in (c .before .before .before .before .pre)
 
 cast-memory : tie.Need-cast-memory
 cast-memory c = omega (arith, memory-lt c)
@@ -74,14 +85,14 @@ returns-2 c =
     let e = c .before .before in
     pass _ _ _ (three e) (rw (← needed-is (e .before .before .before .pre)) (stop _ _ _ (lt-ltb _ _ (c .if2 .taken))))
 
-add-step-at : tie.Need-add-step-at
-add-step-at c = search needs
+add-step-in : tie.Need-add-step-in
+add-step-in c = search needs
 
-add-step-at-2 : tie.Need-add-step-at-2
-add-step-at-2 c = search needs
+add-step-in-2 : tie.Need-add-step-in-2
+add-step-in-2 c = search needs
 
-step-at-requires : tie.Need-step-at-requires
-step-at-requires c κs = search needs
+step-in-requires : tie.Need-step-in-requires
+step-in-requires c κs = step-in (c .before .before .before .before .before .pre)
 
 returns-3 : tie.Need-returns-3
 unfolding contentChecks
@@ -91,32 +102,26 @@ returns-3 c =
     let e1 = e2 .before .before in
     let b = e1 .before .before .before in
     pass _ _ _ (three e1) (pass _ _ _ (four e2)
-    (rw (← step-is (b .pre) (b .args .st .at + 4 + b .args .a), ← k .step-at .ensures) (stop _ _ _ (lt-ltb _ _ (c .if3 .taken)))))
+    (rw (← step-is (b .pre) (b .args .st .at + 4 + b .args .a), ← k .step-in .ensures) (stop _ _ _ (lt-ltb _ _ (c .if3 .taken)))))
 
-shared-slice-read-id : tie.Need-shared-slice-read-id
-shared-slice-read-id c = search needs
+add-media-at : tie.Need-add-media-at
+add-media-at c = search needs
 
-cast-flags : tie.Need-cast-flags
-cast-flags c = search needs
+add-media-at-2 : tie.Need-add-media-at-2
+add-media-at-2 c = search needs
 
-add-media : tie.Need-add-media
-add-media c = search needs
+media-at-requires : tie.Need-media-at-requires
+media-at-requires c κs = flags-in (c .before .before .before .before .before .before .before .pre)
 
-add-media-2 : tie.Need-add-media-2
-add-media-2 c = search needs
-
-add-media-3 : tie.Need-add-media-3
-add-media-3 c = search needs
-
-shared-slice-read-media : tie.Need-shared-slice-read-media
-shared-slice-read-media c = let b = c .before .before .before .before .before .before .before .before .before in omega (arith, rooms (b .pre), b .pre .room)
+shared-slice-read-late-host : tie.Need-shared-slice-read-late-host
+shared-slice-read-late-host c = omega (arith, memory-in (c .before .before .before .before .before .before .before .before .before .pre))
 
 late-host-requires : tie.Need-late-host-requires
 late-host-requires c κs = search needs
 
 returns-4 : tie.Need-returns-4
 unfolding contentChecks
-returns-4 c = let k = c .before in let y = k .before in past-five y _ _ (rw (← media-is (y .before .before .before .before .before .before .before .before .before .pre)) (stop _ _ _ (sym (k .late-host .ensures) ∙ c .if4 .taken)))
+returns-4 c = let k = c .before in let y = k .before in past-five y _ _ (rw (← media (y .before)) (stop _ _ _ (sym (k .late-host .ensures) ∙ c .if4 .taken)))
 
 add-sum : tie.Need-add-sum
 add-sum c = omega (arith, memory-lt (c .before .before .before .before .before .before .before .before), c .before .before .before .before .before .before .before .before .before .before .before .before .pre .sum)
@@ -127,22 +132,22 @@ returns-5 c =
     let e4 = c .before .before in
     let y = e4 .before .before in
     let g = y .before .before .before .before .before .before .before .before .before .args in
-    past-five y _ _ (pass _ _ _ (rw (← media-is (y .before .before .before .before .before .before .before .before .before .pre)) (sym (e4 .before .late-host .ensures) ∙ e4 .if4 .left)) (stop _ _ _ (lt-ltb 256 (g .st .sum + byteAt (now (g .s)) (g .st .at + 2 + g .a)) (omega (arith, c .if5 .taken)))))
+    past-five y _ _ (pass _ _ _ (rw (← media (y .before)) (sym (e4 .before .late-host .ensures) ∙ e4 .if4 .left)) (stop _ _ _ (lt-ltb 256 (g .st .sum + byteAt (now (g .s)) (g .st .at + 2 + g .a)) (omega (arith, c .if5 .taken)))))
 
-add-t16 : tie.Need-add-t16
-add-t16 c = search needs
+add-t14 : tie.Need-add-t14
+add-t14 c = search needs
 
-shared-slice-read-t19 : tie.Need-shared-slice-read-t19
-shared-slice-read-t19 c = let b = c .before .before .before .before .before .before .before .before .before .before .before .before .before .before in omega (arith, rooms (b .pre), b .pre .room)
+shared-slice-read-t17 : tie.Need-shared-slice-read-t17
+shared-slice-read-t17 c = let b = c .before .before .before .before .before .before .before .before .before .before .before .before .before .before in omega (arith, memory-in (b .pre))
 
-cast-t17 : tie.Need-cast-t17
-cast-t17 c = let g = c .before .before .before .before .before .before .before .before .before .before .before .before .before .before .args in omega (arith, c .shared-slice-known5 .given (g .st .at + 1) .fits)
+cast-t15 : tie.Need-cast-t15
+cast-t15 c = let g = c .before .before .before .before .before .before .before .before .before .before .before .before .before .before .args in omega (arith, c .shared-slice-known4 .given (g .st .at + 1) .fits)
 
 add-t21 : tie.Need-add-t21
-add-t21 c = let b = c .before .before .before .before .before .before .before .before .before .before .before .before .before .before in omega (arith, c .shared-slice-known5 .given (b .args .st .at + 1) .fits, b .pre .room, b .pre .short)
+add-t21 c = let b = c .before .before .before .before .before .before .before .before .before .before .before .before .before .before in omega (arith, c .shared-slice-known4 .given (b .args .st .at + 1) .fits, b .pre .room, b .pre .short)
 
-add-t27 : tie.Need-add-t27
-add-t27 c = search needs
+add-t22 : tie.Need-add-t22
+add-t22 c = search needs
 
 returns-6 : tie.Need-returns-6
 unfolding contentChecks
@@ -151,13 +156,13 @@ returns-6 c =
     let e4 = e5 .before .before in
     let y = e4 .before .before in
     let g = y .before .before .before .before .before .before .before .before .before .args in
-    past-five y _ _ (pass _ _ _ (rw (← media-is (y .before .before .before .before .before .before .before .before .before .pre)) (sym (e4 .before .late-host .ensures) ∙ e4 .if4 .left)) (pass _ _ _ (le-ltb 256 (g .st .sum + byteAt (now (g .s)) (g .st .at + 2 + g .a)) (omega (arith, e5 .if5 .left))) (rw (media-is (y .before .before .before .before .before .before .before .before .before .pre)) refl)))
+    past-five y _ _ (pass _ _ _ (rw (← media (y .before)) (sym (e4 .before .late-host .ensures) ∙ e4 .if4 .left)) (pass _ _ _ (le-ltb 256 (g .st .sum + byteAt (now (g .s)) (g .st .at + 2 + g .a)) (omega (arith, e5 .if5 .left))) (rw (media (y .before)) refl)))
 
 pub content-spec : {M : Type 1} → statement M
 content-spec =
     tie.close
     (tie.spec
-    other-requires
+    stands-requires
     returns
     add-memory
     add-memory-2
@@ -165,23 +170,21 @@ content-spec =
     cast-memory
     cast-if2
     returns-2
-    add-step-at
-    add-step-at-2
-    step-at-requires
+    add-step-in
+    add-step-in-2
+    step-in-requires
     returns-3
-    shared-slice-read-id
-    cast-flags
-    add-media
-    add-media-2
-    add-media-3
-    shared-slice-read-media
+    add-media-at
+    add-media-at-2
+    media-at-requires
+    shared-slice-read-late-host
     late-host-requires
     returns-4
     add-sum
     returns-5
-    add-t16
-    shared-slice-read-t19
-    cast-t17
+    add-t14
+    shared-slice-read-t17
+    cast-t15
     add-t21
-    add-t27
+    add-t22
     returns-6)

@@ -5,6 +5,7 @@ use mathlib.Core.Bool.{false}
 use Prim.Native.Nat.{ℕ, _+_, _-_, _<_}
 use native.Mathlib.Omega.{arith}
 use lib.ListN.{length, getD}
+use lib.Dec.{eqb}
 use denote.Ref.{now}
 use borrow.Author.Tests.{lt-ltb, le-ltb, eq-eqb, ne-eqb}
 use Rattle.rules.specs.Parameter.{rowOf}
@@ -16,9 +17,15 @@ use Rattle.descriptor.proofs.Chain.{pass, stop}
 use Rattle.descriptor.proofs.step.step.Statement.{statement}
 use Rattle.descriptor.proofs.step.step.Tie as tie
 
+-- the bytes left are more than one
+more : (c : tie.Else1) → let g = c .before .before .args in eqb (length (now (g .s)) - g .st .at) 1 ≡ false
+more c = let g = c .before .before .args in ne-eqb (length (now (g .s)) - g .st .at) 1 (λ q. c .if1 .left (omega arith))
+
 -- 1 is passed
 one : (c : tie.Else2) → let g = c .before .before .before .before .args in overruns (length (now (g .s)) - g .st .at) (entryAt (g .a) (now (g .s)) (g .st)) ≡ false
-one c = rw (ne-eqb _ _ (c .before .before .if1 .left), le-ltb _ _ (c .if2 .left)) refl
+one c =
+    let g = c .before .before .before .before .args in
+    rw (more (c .before .before), le-ltb (length (now (g .s)) - g .st .at) (byteAt (now (g .s)) (g .st .at + 1)) (omega (arith, c .if2 .left))) refl
 
 length-lt : (c : tie.After-shared-slice-known2) → let g = c .before .before .before .args in getD (now (g .s)) (g .st .at + 1) 0 < 256
 length-lt c = let g = c .before .before .before .args in c .shared-slice-known2 .given (g .st .at + 1) .fits
@@ -27,12 +34,12 @@ length-lt c = let g = c .before .before .before .args in c .shared-slice-known2 
 least : (c : tie.After-row-of) → let g = c .before .before .before .before .before .before .args in leastIn (c .row-of .result) ≡ rowOf (byteAt (now (g .s)) (g .st .at)) .least
 least c = let g = c .before .before .before .before .before .before .args in ap (λ (n : ℕ). leastIn n) (c .row-of .ensures) ∙ row (byteAt (now (g .s)) (g .st .at)) .least
 
-sub-left : tie.Need-sub-left
-sub-left c = search needs
+add-if1 : tie.Need-add-if1
+add-if1 c = search needs
 
 returns : tie.Need-returns
 unfolding decodeAt lengthChecks
-returns c = stop _ _ _ (rw (eq-eqb _ _ (c .if1 .taken)) refl)
+returns c = let g = c .before .before .args in stop _ _ _ (rw (eq-eqb (length (now (g .s)) - g .st .at) 1 (omega (arith, c .if1 .taken))) refl)
 
 add-length : tie.Need-add-length
 add-length c = search needs
@@ -43,9 +50,14 @@ shared-slice-read-length c = search needs
 cast-length : tie.Need-cast-length
 cast-length c = omega (arith, length-lt c)
 
+add-if2 : tie.Need-add-if2
+add-if2 c = omega (arith, length-lt c, c .before .before .before .pre .inside, c .before .before .before .pre .short)
+
 returns-2 : tie.Need-returns-2
 unfolding decodeAt lengthChecks
-returns-2 c = stop _ _ _ (rw (ne-eqb _ _ (c .before .before .if1 .left), lt-ltb _ _ (c .if2 .taken)) refl)
+returns-2 c =
+    let g = c .before .before .before .before .args in
+    stop _ _ _ (rw (more (c .before .before), lt-ltb (length (now (g .s)) - g .st .at) (byteAt (now (g .s)) (g .st .at + 1)) (omega (arith, c .if2 .taken))) refl)
 
 shared-slice-read-row-of : tie.Need-shared-slice-read-row-of
 shared-slice-read-row-of c = search needs
@@ -85,11 +97,12 @@ pub step-spec : {M : Type 1} → statement M
 step-spec =
     tie.close
     (tie.spec
-    sub-left
+    add-if1
     returns
     add-length
     shared-slice-read-length
     cast-length
+    add-if2
     returns-2
     shared-slice-read-row-of
     row-of-requires

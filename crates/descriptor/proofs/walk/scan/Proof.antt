@@ -1,7 +1,6 @@
 -- `scan` meets its contract.
 use borrow.Author.Needs.{needs}
-use mathlib.Core.Path.{_≡_, refl, sym, _∙_}
-use mathlib.Core.Logic.{inl, inr, ⊎-elim}
+use mathlib.Core.Path.{sym, _∙_}
 use Prim.Native.Nat.{_-_}
 use native.Mathlib.Omega.{arith}
 use lib.ListN.{length}
@@ -10,44 +9,38 @@ use Rattle.rules.specs.Descriptor.{decodeAt}
 use Rattle.rules.specs.Load.{walkOf}
 use Rattle.rules.proofs.Checks.{Passed, decode-passed}
 use Rattle.rules.proofs.Folds.{done, out}
-use Rattle.descriptor.proofs.Scan.{Went, went, halts, halted, Scanning, scan-begin, scan-turn}
+use Rattle.descriptor.proofs.Scan.{Went, went, halts, Scanning, scan-begin, scan-turn}
 use Rattle.descriptor.proofs.walk.scan.Statement.{statement}
 use Rattle.descriptor.proofs.walk.scan.Tie as tie
-use Rattle.descriptor.proofs.walk.scan.Reads as reads
-use Rattle.descriptor.proofs.walk.scan.Lts as lts
-use Rattle.descriptor.proofs.step.step.Reads as step-reads
-use Rattle.descriptor.proofs.walk.stopped.Reads as stopped-reads
 
 abbrev Inv-loop : tie.InvT-loop
-Inv-loop classes table in-ro a s number sum media entry st₀ mark₀ st mark = Scanning in-ro a s st₀ entry st mark
+Inv-loop classes table in-ro a s number sum media st₀ st = Scanning in-ro a s st₀ st
 
 abbrev μ-loop : tie.MeasureT-loop
-μ-loop classes table in-ro a s number sum media entry st₀ mark₀ st mark = length s - st .at
+μ-loop classes table in-ro a s number sum media st₀ st = length s - st .at
 
 -- the entry that a turn goes past
 gone : (c : tie.After-known-told Inv-loop μ-loop) →
-    let l = c .before .before .before .before .before .before .before .before in
+    let l = c .before .before .before .before .before .before in
     let g = l .before .before .args in
     Went (l .loop .st) (decodeAt (g .in-ro) (g .a) (now (g .s)) (l .loop .st)) (c .before .d .given .0 .0)
-gone c =
-    let k = c .before .before .before in
-    went _ _ _ (sym (k .step .ensures) ∙ c .before .d .given .1)
+gone c = went _ _ _ (sym (c .before .before .before .step .ensures) ∙ c .before .d .given .1)
 
 loop-holds : tie.Need-loop-holds Inv-loop μ-loop
-loop-holds c = scan-begin _ _ _ _ _ _ (c .before .pre .sum)
+loop-holds c = scan-begin _ _ _ _ (c .before .pre .sum)
 
 step-requires : tie.Need-step-requires Inv-loop μ-loop
 step-requires c κs =
-    let l = c .before .before .before .before in
+    let l = c .before .before in
     let b = l .before .before in
     record {
       classes-is = b .pre .classes-is;
       table-is = b .pre .table-is;
       mask-low = b .pre .mask-low;
       mask-top = b .pre .mask-top;
-      inside = c .before .before .if1 .taken;
+      inside = c .if1 .taken;
       short = b .pre .short;
-      number = omega (arith, l .loop .inv .reached .counts, b .pre .number, b .pre .short, c .before .before .if1 .taken);
+      number = omega (arith, l .loop .inv .folded .counts, b .pre .number, b .pre .short, c .if1 .taken);
       sum = l .loop .inv .sum;
     }
 
@@ -65,32 +58,28 @@ unfolding walkOf
 returns c =
     let t = c .before in
     let k = t .before .before in
-    let l = k .before .before .before .before .before in
+    let l = k .before .before .before in
     let g = l .before .before .args in
-    let d = decodeAt (g .in-ro) (g .a) (now (g .s)) (l .loop .st) in (
-      out (l .loop .inv .folded) (k .before .before .before .if1 .taken) _
-          (λ r. c .stopped .ensures ∙ halts (l .loop .st) d (k .step .result) _ r (k .step .ensures) (t .enum-told .given .1)),
-      λ end q. absurd (halted (k .step .result) (l .loop .st .number) end (sym (c .stopped .ensures) ∙ q)),
-    )
+    let d = decodeAt (g .in-ro) (g .a) (now (g .s)) (l .loop .st) in
+    out (l .loop .inv .folded) (k .before .if1 .taken) _
+    (λ r. c .stopped .ensures ∙ halts (l .loop .st) d (k .step .result) _ r (k .step .ensures) (t .enum-told .given .1))
 
 loop-less : tie.Need-loop-less Inv-loop μ-loop
 loop-less c =
-    let l = c .before .before .before .before .before .before .before .before in
+    let t = c .before .before .before .before in
     let w = gone c in
-    let p : Passed _ _ _ (l .loop .st) (w .e) = decode-passed _ _ _ _ _ (w .decodes) in
-    rw (w .to) (omega (arith, p .long, c .before .before .before .before .before .before .if1 .taken))
+    let p : Passed _ _ _ (t .before .before .loop .st) (w .e) = decode-passed _ _ _ _ _ (w .decodes) in
+    rw (w .to) (omega (arith, p .long, t .if1 .taken))
 
 loop-again : tie.Need-loop-again Inv-loop μ-loop
 loop-again c =
-    let l = c .before .before .before .before .before .before .before .before in
+    let t = c .before .before .before .before in
     let w = gone c in
-    rw (w .to) (scan-turn (l .loop .inv) (c .before .before .before .before .before .before .if1 .taken) (w .e) (w .decodes) _ (⊎-elim (λ y. inl (y .0 .taken, y .1)) (λ y. inr (y .0 .left, y .1)) (c .before .before .before .before .if2 .came)))
+    rw (w .to) (scan-turn (t .before .before .loop .inv) (t .if1 .taken) (w .e) (w .decodes))
 
 returns-2 : tie.Need-returns-2 Inv-loop μ-loop
 unfolding walkOf
-returns-2 c =
-    let l′ = c .before .before in
-    (done (l′ .loop .inv .folded) (c .if1 .left), λ end q l u. let e : l′ .loop .st ≡ end = cc in l′ .loop .inv .marked l (rw (← e) at u))
+returns-2 c = done (c .before .before .loop .inv .folded) (c .if1 .left)
 
 pub scan-spec : {M : Type 1} → statement M
 scan-spec =
