@@ -7,3 +7,8 @@ pub mod Table
 pub mod Ways
 pub mod Enters
 pub mod ByteWays
+pub mod Leasts
+pub mod Copies
+pub mod Passed
+pub mod Applies
+pub mod Performed

@@ -7,10 +7,11 @@ use lib.ListN.{length}
 use Rattle.rules.specs.declared.Refusal.{Refusal}
 use Rattle.rules.specs.declared.Refusal.the-variants.{Plain as plain}
 use Rattle.rules.specs.declared.Call.{Call}
+use Rattle.rules.specs.declared.Answer.{Answer}
 use Rattle.rules.specs.declared.Answer.the-variants.{Refused as refused}
 use Rattle.rules.specs.declared.Loaded.the-variants.{Accepted as accepted, Refused as rejected}
 use Rattle.rules.specs.Load.{loadOf, Map, mapOf}
-use Rattle.rules.specs.Refuse.{Verdict, passes, refuses, firstOf, bankOrder, exists, misdirected, unaccepted, judge}
+use Rattle.rules.specs.Refuse.{Verdict, passes, refuses, firstOf, decide, bankOrder, exists, misdirected, unaccepted, judge}
 use Rattle.rules.specs.Bank.{Bank, bankPlan, bankDoes, bankStep, freshBank, freshStep}
 use Rattle.rules.specs.Demands.{Accepted}
 use Rattle.rules.proofs.Walks.{map-good}
@@ -51,6 +52,24 @@ module _ (count : ℕ) (first last : List ℕ) (c : Call) (b : Bank) where
 
         pub call-done : unaccepted m c ≡ false → firstOf (bankPlan m c b) ≡ passes → bankStep count first last c b ≡ bankDoes m c b
         call-done u q = step-done count first last c b (order ∙ judge-ok m c (bankPlan m c b) h l u ∙ q)
+
+-- a call that reads leaves the bank
+module _ (count : ℕ) (first last : List ℕ) (b : Bank) where
+  decided : (v : Verdict) (a : Answer) → b ≡ decide v b (a, b) .1
+  decided passes a = refl
+  decided (refuses r) a = refl
+
+  kept : (c : Call) (a : Answer) → bankDoes (mapOf count first last) c b ≡ (a, b) → b ≡ bankStep count first last c b .1
+  unfolding bankStep
+  kept c a h = rw h (decided (bankOrder count first last (length b) (judge (mapOf count first last) c ++ bankPlan (mapOf count first last) c b)) a)
+
+  pub read-keeps : (s e p i : ℕ) → b ≡ bankStep count first last (Call.Read s e p i) b .1
+  unfolding bankDoes
+  read-keeps s e p i = kept (Call.Read s e p i) _ refl
+
+  pub byte-read-keeps : (s k : ℕ) → b ≡ bankStep count first last (Call.ByteRead s k) b .1
+  unfolding bankDoes
+  byte-read-keeps s k = kept (Call.ByteRead s k) _ refl
 
 -- fresh
 module _ (count : ℕ) (first last : List ℕ) (b : Bank) where

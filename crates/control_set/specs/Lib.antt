@@ -2,3 +2,4 @@
 pub mod Field
 pub mod Values
 pub mod Gate
+pub mod Plan

@@ -26,6 +26,9 @@ askedIn row = ltb 0 (row / 0x10000000000)
 abbrev pub baseIn : ℕ → ℕ
 baseIn row = row / 0x100000000 % 256
 
+abbrev pub signedIn : ℕ → Bool
+signedIn row = ltb 0 (baseIn row)
+
 abbrev pub edge : ℕ → ℕ → ℤ
 edge n base = pos n -ℤ pos base
 

@@ -3,7 +3,7 @@ ghost use mathlib.Core.Path.{_≡_};
 ghost use Prim.Native.Nat.{_<_};
 ghost use Rattle.rules.specs.Parameter.{rowOf, codes as coded};
 ghost use Rattle.rules.specs.Accept.{within, inCodes};
-ghost use Rattle.control_set.specs.Values.{valuesNumber, edge as edgeOf, rangesIn, allowedBy, acceptsBy};
+ghost use Rattle.control_set.specs.Values.{valuesNumber, signedIn, edge as edgeOf, rangesIn, allowedBy, acceptsBy};
 
 // The class of each ID below 13h; every ID from 13h on has the class of 00h.
 const CLASSES: [u8; 19] = [0, 0, 1, 2, 3, 1, 1, 4, 5, 0, 0, 0, 0, 0, 0, 6, 6, 7, 7];
@@ -32,11 +32,18 @@ pub fn values_of(id: usize) -> u64
     VALUES[0]
 }
 
+// Whether a row is of two's complement numbers.
+pub fn is_signed(row: u64) -> bool
+    ensures { λ r. ⌜ r ≡ signedIn row ⌝ }
+{
+    0 < row / 0x1_0000_0000 % 256
+}
+
 // Whether an ID's fields hold two's complement numbers.
 pub fn signed(id: usize) -> bool
     ensures { λ r. ⌜ r ≡ rowOf id .signed ⌝ }
 {
-    0 < values_of(id) / 0x1_0000_0000 % 256
+    is_signed(values_of(id))
 }
 
 // The end of a range that a row's number stands for.

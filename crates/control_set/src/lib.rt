@@ -9,14 +9,17 @@ ghost use Rattle.control_set.specs.Gate.{refusedOf, byteRefused};
 
 mod accept; // accepted values
 mod bank; // a field of a bank
+mod copy; // apply's copy
 mod field; // a field of a byte
 mod gate; // 9, 8 and 1 to 7
 mod number; // numbers and bits
+mod plan; // 13 and 14
 
 use crate::accept::accepts;
 use crate::accept::signed;
 use crate::bank::read_field;
 use crate::bank::write_field;
+use crate::copy::copy_all;
 use crate::gate::Byte;
 use crate::gate::Gate;
 use crate::gate::admit;
@@ -26,9 +29,13 @@ use crate::number::bits_of;
 use crate::number::number_of;
 use crate::number::weight_of;
 use crate::number::wide;
+use crate::plan::Chosen;
+use crate::plan::lowest_bad;
+use crate::plan::lowest_lacking;
 use descriptor::Found;
 use descriptor::shape_of;
 use rules::Answer;
+use rules::Call;
 use rules::Loaded;
 use rules::Refusal;
 
@@ -273,6 +280,73 @@ pub fn publish(
     let bits = bits_of(shape.width, value);
     write_field(bank, 2, e.offset, part, shape.width, lane, bits);
     Answer::Yes
+}
+
+// apply: copies the fields of the chosen lanes from a staged set to the active set, all or nothing.
+pub fn apply(count: usize, rw: &[u8], ro: &[u8], bank: &mut [u8], set: usize, lanes: u8) -> Answer
+    ensures answer { λ r. ⌜ r ≡ bankStep count (now (rw .entry)) (now (ro .entry)) (Call.Apply set lanes) (now (bank .entry)) .0 ⌝ }
+    ensures after { λ _. ⌜ now (bank .exit) ≡ bankStep count (now (rw .entry)) (now (ro .entry)) (Call.Apply set lanes) (now (bank .entry)) .1 ⌝ }
+{
+    let g = admit(count, rw, ro, bank.len());
+    match g {
+        Gate::Refused(r) => Answer::Refused(r),
+        Gate::Open {
+            rw: entries,
+            ro: _,
+            staged: _,
+            active: _,
+        } => {
+            if 2 < set {
+                return Answer::Refused(Refusal::Plain(10));
+            }
+            if set == 2 {
+                return Answer::Refused(Refusal::Plain(11));
+            }
+            let chosen = Chosen { count, set, lanes };
+            let lacking = lowest_lacking(chosen, bank);
+            let bad = lowest_bad(chosen, rw, entries, bank);
+            if lacking != 9 {
+                return Answer::Refused(Refusal::AtLane(13, lacking));
+            }
+            if bad != 9 {
+                return Answer::Refused(Refusal::AtLane(14, bad));
+            }
+            copy_all(chosen, rw, entries, bank);
+            Answer::Yes
+        }
+    }
+}
+
+// Any of the seven calls.
+pub fn perform(count: usize, rw: &[u8], ro: &[u8], bank: &mut [u8], call: Call) -> Answer
+    ensures answer { λ r. ⌜ r ≡ bankStep count (now (rw .entry)) (now (ro .entry)) call (now (bank .entry)) .0 ⌝ }
+    ensures after { λ _. ⌜ now (bank .exit) ≡ bankStep count (now (rw .entry)) (now (ro .entry)) call (now (bank .entry)) .1 ⌝ }
+{
+    match call {
+        Call::Select { set, lane, app } => select(count, rw, ro, bank, set, lane, app),
+        Call::Write {
+            set,
+            entry,
+            part,
+            lane,
+            value,
+        } => write(count, rw, ro, bank, set, entry, part, lane, value),
+        Call::Read {
+            set,
+            entry,
+            part,
+            lane,
+        } => read(count, rw, ro, bank, set, entry, part, lane),
+        Call::ByteWrite { set, offset, byte } => byte_write(count, rw, ro, bank, set, offset, byte),
+        Call::ByteRead { set, offset } => byte_read(count, rw, ro, bank, set, offset),
+        Call::Publish {
+            entry,
+            part,
+            lane,
+            value,
+        } => publish(count, rw, ro, bank, entry, part, lane, value),
+        Call::Apply { set, lanes } => apply(count, rw, ro, bank, set, lanes),
+    }
 }
 
 // weight: the active number of a lane of a 12h entry, in thousandths.

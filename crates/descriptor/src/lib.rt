@@ -8,6 +8,7 @@ ghost use Rattle.rules.specs.MapProgram.{mapOutput};
 ghost use Rattle.rules.specs.Beside.{entryAnswer, entryBytes};
 ghost use Rattle.descriptor.specs.Locate.{locatedOf};
 ghost use Rattle.descriptor.specs.Find.{foundOf, shapeOf};
+ghost use Rattle.descriptor.specs.Wide.{entryFrom};
 ghost use Rattle.descriptor.specs.Cover.{coverOf};
 
 mod rows; // constant rows by ID class
@@ -186,6 +187,26 @@ pub fn find(count: usize, rw: &[u8], ro: &[u8], entry: usize) -> Found
             }
         }
     }
+}
+
+// The entry that starts at a place of a string, with its offset in a set; none starts past byte 120.
+pub fn entry_from(count: usize, s: &[u8], start: usize, offset: usize) -> Entry
+    ensures { λ r. ⌜ r ≡ entryFrom count (now (s .entry)) start offset ⌝ }
+{
+    if 120 < start {
+        return Entry {
+            id: 0,
+            start: 0,
+            length: 0,
+            mask: 0,
+            memory: 0,
+            media: false,
+            codes: 0,
+            step: 0,
+            offset: 0,
+        };
+    }
+    entry_at(mask_bytes(count), s, start, offset)
 }
 
 // What the table says of an ID's fields: its parts and its bits a lane.

@@ -47,6 +47,12 @@ lengths-next [] n h = absurd (omega arith)
 lengths-next (e ∷ l) zero h = omega arith
 lengths-next (e ∷ l) (suc n) h = omega (arith, lengths-next l n (omega arith))
 
+pub lengths-most : (l : List Entry) (n : ℕ) → lengths (take n l) ≤ lengths l
+lengths-most [] zero = omega arith
+lengths-most [] (suc n) = omega arith
+lengths-most (e ∷ l) zero = omega arith
+lengths-most (e ∷ l) (suc n) = omega (arith, lengths-most l n)
+
 pub total-next : (l : List Entry) (n : ℕ) → n < length l → total (take (suc n) l) ≡ total (take n l) + getD l n nothing .memory
 unfolding total
 total-next [] n h = absurd (omega arith)
@@ -99,7 +105,7 @@ module _ (count : ℕ) (first last : List ℕ) (ok : Accepted count first last) 
 
   -- an entry of the RW string
   module _ (e : ℕ) (h : e < mapOf count first last .rwCount) where
-    in-rw : entry (mapOf count first last) e ≡ getD r e nothing
+    pub in-rw : entry (mapOf count first last) e ≡ getD (rwEntries count first) e nothing
     unfolding mapOf entriesOf
     in-rw = List·getD-append r o nothing e h
 
@@ -112,6 +118,12 @@ module _ (count : ℕ) (first last : List ℕ) (ok : Accepted count first last) 
     rw-place =
         let l : e ≤ length r = omega arith in
         ap lengths (take-append-le e r o l) ∙ sym (rw in-rw (rw-fills count first last ok .starts e h))
+
+    pub rw-offset : getD (rwEntries count first) e nothing .offset ≡ total (take e (rwEntries count first))
+    unfolding mapOf entriesOf
+    rw-offset =
+        let l : e ≤ length r = omega arith in
+        rw (← in-rw) (both-ways count first last ok .offsets e (omega (arith, length-append r o)) ∙ ap total (take-append-le e r o l))
 
   -- an entry of the RO string
   module _ (e : ℕ) (h : mapOf count first last .rwCount ≤ e) (l : e < length (mapOf count first last .entries)) where

@@ -1,0 +1,158 @@
+-- The copy turn by turn: where its fields lie, and that each turn may read the staged set from the bank as it is.
+use mathlib.Core.Path.{_≡_, refl, ap, _∙_}
+use mathlib.Core.Bool.{Bool, true, false, _&&_, cond}
+use mathlib.Core.List.{List}
+use Prim.Native.Nat.{ℕ, zero, suc, _+_, _-_, _≤_, _<_}
+use native.Mathlib.Numerals.{add-one}
+use native.Mathlib.Omega.{arith}
+use lib.Arith.{digits-lt}
+use lib.ListN.{length, getD, set, length-set, length-take, length-drop, drop}
+use lib.Seq.{getD-set-other, getD-take, getD-drop}
+use borrow.Rule.Slice.PartMut.{midOf, putMid, set-mid-at}
+use Rattle.rules.specs.Numbers.{cut}
+use Rattle.rules.specs.Descriptor.{hasApp}
+use Rattle.rules.specs.Place.{laneBit}
+use Rattle.rules.specs.Refuse.{chooses}
+use Rattle.rules.specs.Layout.{bankSize, setStart, appSelAt}
+use Rattle.rules.specs.Bank.{Bank, merge, loop}
+use Rattle.rules.proofs.Lanes.{Width, lane-byte-lt}
+use Rattle.rules.proofs.Applied.{loop-inv}
+use Rattle.control_set.specs.declared.plan.Chosen.{Chosen}
+use Rattle.control_set.specs.declared.plan.Fields.{Fields}
+use Rattle.control_set.specs.Field.{Spot, byteIn, bitsAt, withBits}
+use Rattle.control_set.specs.Plan.{Asked, Spread, copiesBy, copyLane, copyPart, copyEntry}
+
+-- a field of an entry, in any set
+pub spread-spot :
+    {f : Fields} (b : Bank)
+    → bankSize ≤ length b
+    → Spread f
+    → (s : ℕ) → s < 3
+    → (p i : ℕ) → p < f .parts → 1 ≤ i → i ≤ 8
+    → Spot b s (f .offset) p (f .width) i
+spread-spot {f} b size g s hs p i hp l u =
+    let w : Width (f .width) = g .whole (omega arith) in
+    record { size = size; isSet = hs; whole = w; low = l; top = u; inside = omega (arith, digits-lt hp (lane-byte-lt (f .width) w i l u), g .inside) }
+
+-- what the copier does to its part it does to the bank
+pub merge-mid :
+    (a k j : ℕ) (l : List ℕ)
+    → j < k
+    → a + k ≤ length l
+    → (t w v : ℕ)
+    → putMid a k l (set (midOf a k l) j (merge (getD (midOf a k l) j 0) t w v)) ≡ set l (a + j) (merge (getD l (a + j) 0) t w v)
+merge-mid a k j l hj h t w v =
+    set-mid-at a k j l (merge (getD (midOf a k l) j 0) t w v) (simp (length-take, length-drop) (omega arith))
+    ∙ ap (λ (x : ℕ). set l (a + j) (merge x t w v)) (getD-take k (drop a l) j 0 hj ∙ getD-drop a l j 0)
+
+-- only the active set, bytes 512 to 767, may differ
+pub record Kept (b b′ : Bank) : Type 0 where
+  pub size : length b′ ≡ length b
+  pub low : (k : ℕ) → k < 512 → getD b′ k 0 ≡ getD b k 0
+  pub high : (k : ℕ) → 768 ≤ k → getD b′ k 0 ≡ getD b k 0
+
+kept-same : (b : Bank) → Kept b b
+kept-same b = record { size = refl; low = λ k l. refl; high = λ k l. refl }
+
+kept-then : {a b c : Bank} → Kept a b → Kept b c → Kept a c
+kept-then p q = record { size = q .size ∙ p .size; low = λ k l. q .low k l ∙ p .low k l; high = λ k l. q .high k l ∙ p .high k l }
+
+loop-kept : (n : ℕ) (f : ℕ → Bank → Bank) (b : Bank) → ((j : ℕ) (b′ : Bank) → j < n → Kept b′ (f j b′)) → Kept b (loop n f b)
+loop-kept n f b h = loop-inv n f (λ j b′. Kept b b′) b (kept-same b) (λ j b′ l p. kept-then p (h j b′ l))
+
+pub loop-ext : (n : ℕ) (f h : ℕ → Bank → Bank) (b : Bank) → ((j : ℕ) (b′ : Bank) → j < n → f j b′ ≡ h j b′) → loop n f b ≡ loop n h b
+unfolding loop
+loop-ext zero f h b q = refl
+loop-ext (suc n) f h b q = q n (loop n f b) (omega arith) ∙ ap (h n) (loop-ext n f h b (λ j b′ l. q j b′ (omega arith)))
+
+pub asked-kept : {c : Chosen} {b b′ : Bank} → Asked c b → Kept b b′ → Asked c b′
+asked-kept a k = record { count = a .count; staged = a .staged; size = omega (arith, a .size, k .size) }
+
+-- the invariant of each loop: j turns are done, from b₀ on
+pub record Upto (f : ℕ → Bank → Bank) (j : ℕ) (b₀ b : Bank) : Type 0 where
+  pub kept : Kept b₀ b
+  pub is : b ≡ loop j f b₀
+
+pub upto-none : (f : ℕ → Bank → Bank) (b : Bank) → Upto f 0 b b
+unfolding loop
+upto-none f b = record { kept = kept-same b; is = refl }
+
+turn : (f : ℕ → Bank → Bank) (j : ℕ) (b₀ b b′ : Bank) → Upto f j b₀ b → Kept b (f j b) → b′ ≡ f j b → Upto f (j + 1) b₀ b′
+unfolding loop
+turn f j b₀ b b′ i h q = record { kept = kept-then (i .kept) (rw q h); is = rw (add-one j) (q ∙ ap (f j) (i .is)) }
+
+module _ {c : Chosen} {b₀ b : Bank} (a : Asked c b₀) (k : Kept b₀ b) {f : Fields} (g : Spread f) where
+  -- the staged set is read the same
+  copies-same : (i : ℕ) → copiesBy c (f .mask) b i ≡ copiesBy c (f .mask) b₀ i
+  copies-same i = ap (λ (x : ℕ). chooses (c .lanes) i && hasApp (c .count) (f .mask) x) (k .high (appSelAt (c .set) i) (omega arith))
+
+  bits-same : (p i : ℕ) → p < f .parts → 1 ≤ i → i ≤ 8 → bitsAt b (c .set) (f .offset) p (f .width) i ≡ bitsAt b₀ (c .set) (f .offset) p (f .width) i
+  bits-same p i hp l u =
+      let t = spread-spot b₀ (a .size) g (c .set) (omega (arith, a .staged)) p i hp l u .inside in
+      ap (λ (x : ℕ). cut x (laneBit (f .width) i) (f .width)) (k .low (setStart (c .set) + byteIn (f .offset) p (f .width) i) (omega (arith, a .staged)))
+
+  lane-same : (p j : ℕ) → p < f .parts → j < 8 → (x : Bank) → copyLane c f b p (suc j) x ≡ copyLane c f b₀ p (suc j) x
+  unfolding copyLane
+  lane-same p j hp hj x = rw (copies-same (suc j), bits-same p (suc j) hp (omega arith) (omega arith)) refl
+
+  part-same : (p : ℕ) → p < f .parts → (x : Bank) → copyPart c f b p x ≡ copyPart c f b₀ p x
+  unfolding copyPart
+  part-same p hp x = loop-ext 8 (λ j. copyLane c f b p (suc j)) (λ j. copyLane c f b₀ p (suc j)) x (λ j b′ l. lane-same p j hp l b′)
+
+  entry-same : (x : Bank) → copyEntry c f b x ≡ copyEntry c f b₀ x
+  unfolding copyEntry
+  entry-same x = loop-ext (f .parts) (λ p. copyPart c f b p) (λ p. copyPart c f b₀ p) x (λ p b′ l. part-same p l b′)
+
+module _ (c : Chosen) {f : Fields} (g : Spread f) (b₀ : Bank) where
+  lane-kept : (p j : ℕ) → p < f .parts → j < 8 → (x : Bank) → Kept x (copyLane c f b₀ p (suc j) x)
+  unfolding copyLane
+  lane-kept p j hp hj x = go (copiesBy c (f .mask) b₀ (suc j))
+    where
+      inside : byteIn (f .offset) p (f .width) (suc j) < 256
+      inside = omega (arith, digits-lt hp (lane-byte-lt (f .width) (g .whole (omega arith)) (suc j) (omega arith) (omega arith)), g .inside)
+
+      go : (t : Bool) → Kept x (cond t (withBits x 2 (f .offset) p (f .width) (suc j) (bitsAt b₀ (c .set) (f .offset) p (f .width) (suc j))) x)
+      go true =
+          record {
+            size = length-set x _ _;
+            low = λ k u. getD-set-other x (setStart 2 + byteIn (f .offset) p (f .width) (suc j)) k _ 0 (λ q. omega arith);
+            high = λ k u. getD-set-other x (setStart 2 + byteIn (f .offset) p (f .width) (suc j)) k _ 0 (λ q. omega (arith, inside));
+          }
+      go false = kept-same x
+
+  part-kept : (p : ℕ) → p < f .parts → (x : Bank) → Kept x (copyPart c f b₀ p x)
+  unfolding copyPart
+  part-kept p hp x = loop-kept 8 (λ j. copyLane c f b₀ p (suc j)) x (λ j b′ l. lane-kept p j hp l b′)
+
+  entry-kept : (x : Bank) → Kept x (copyEntry c f b₀ x)
+  unfolding copyEntry
+  entry-kept x = loop-kept (f .parts) (λ p. copyPart c f b₀ p) x (λ p b′ l. part-kept p l b′)
+
+-- one turn of each loop of the code is one turn of its definition's
+module _ {c : Chosen} {b₀ : Bank} (a : Asked c b₀) {f : Fields} (g : Spread f) {b b′ : Bank} where
+  pub lane-turn :
+      (p j : ℕ)
+      → p < f .parts
+      → j < 8
+      → Upto (λ i. copyLane c f b₀ p (suc i)) j b₀ b
+      → b′ ≡ copyLane c f b p (j + 1) b
+      → Upto (λ i. copyLane c f b₀ p (suc i)) (j + 1) b₀ b′
+  lane-turn p j hp hj i q =
+      turn (λ i. copyLane c f b₀ p (suc i)) j b₀ b b′ i (lane-kept c g b₀ p j hp hj b) ((rw (add-one j) at q) ∙ lane-same a (i .kept) g p j hp hj b)
+
+  pub part-turn :
+      (p : ℕ)
+      → p < f .parts
+      → Upto (λ i. copyPart c f b₀ i) p b₀ b
+      → b′ ≡ copyPart c f b p b
+      → Upto (λ i. copyPart c f b₀ i) (p + 1) b₀ b′
+  part-turn p hp i q = turn (λ i. copyPart c f b₀ i) p b₀ b b′ i (part-kept c g b₀ p hp b) (q ∙ part-same a (i .kept) g p hp b)
+
+  pub entry-turn :
+      (h : ℕ → Fields) (n : ℕ)
+      → h n ≡ f
+      → Upto (λ i. copyEntry c (h i) b₀) n b₀ b
+      → b′ ≡ copyEntry c f b b
+      → Upto (λ i. copyEntry c (h i) b₀) (n + 1) b₀ b′
+  entry-turn h n e i q =
+      turn (λ i. copyEntry c (h i) b₀) n b₀ b b′ i (rw e (entry-kept c g b₀ b)) (q ∙ rw e (entry-same a (i .kept) g b))

@@ -1,0 +1,155 @@
+-- `apply` meets its contract: each of its tests is the rules' test of that number, and its copy is theirs.
+use borrow.Author.Needs.{needs}
+use mathlib.Core.Path.{_≡_, refl}
+use mathlib.Core.Bool.{true, false}
+use Prim.Native.Nat.{_<_}
+use native.Mathlib.Omega.{arith}
+use lib.ListN.{length}
+use lib.Dec.{eqb}
+use denote.Ref.{now}
+use borrow.Author.Tests.{lt-ltb, le-ltb, eq-eqb, ne-eqb}
+use Rattle.rules.specs.declared.Call.{Call}
+use Rattle.rules.specs.Place.{isSet}
+use Rattle.rules.proofs.Steps.{meets}
+use Rattle.control_set.specs.Gate.{Opened}
+use Rattle.control_set.proofs.Ways.{call-shut}
+use Rattle.control_set.proofs.Applies.{apply-asked, apply-listed, apply-10, apply-11, apply-13, apply-14, apply-done}
+use Rattle.control_set.proofs.apply.Statement.{statement}
+use Rattle.control_set.proofs.apply.Tie as tie
+
+opened : (c : tie.After-known-told2) →
+    let g = c .before .before .before .before .before .before .before .args in
+    let x = c .before .g2 .given .0 in
+    Opened (g .count) (now (g .rw)) (now (g .ro)) (length (now (g .bank))) (x .0) (x .1 .0) (x .1 .1 .0) (x .1 .1 .1 .0)
+opened c = rw (c .before .g2 .given .1) at (c .before .before .before .admit .ensures)
+
+-- what is passed: 10 and 11
+there : (c : tie.Else1) → isSet (c .before .before .before .before .before .before .before .before .args .set) ≡ true
+there c = lt-ltb (c .before .before .before .before .before .before .before .before .args .set) 3 (omega (arith, c .if1 .left))
+
+may : (c : tie.Else2) → eqb (c .before .before .before .before .before .before .before .before .before .args .set) 2 ≡ false
+may c = ne-eqb _ 2 (c .if2 .left)
+
+staged : (c : tie.Else2) → c .before .before .before .before .before .before .before .before .before .args .set < 2
+staged c = omega (arith, c .before .if1 .left, c .if2 .left)
+
+admit-requires : tie.Need-admit-requires
+admit-requires c κs = search needs
+
+enum-known-g : tie.Need-enum-known-g
+enum-known-g c = search needs
+
+enum-known-g-2 : tie.Need-enum-known-g-2
+enum-known-g-2 c = search needs
+
+returns : tie.Need-returns
+returns c =
+    let u = c .before in
+    let g = u .before .before .before .before .before .before .before .args in
+    meets (apply-10 (g .count) (now (g .rw)) (now (g .ro)) (g .set) (g .lanes) (now (g .bank)) (opened u) (le-ltb (g .set) 3 (omega (arith, c .if1 .taken)))) refl refl
+
+returns-2 : tie.Need-returns-2
+returns-2 c =
+    let u = c .before .before in
+    let g = u .before .before .before .before .before .before .before .args in
+    meets (apply-11 (g .count) (now (g .rw)) (now (g .ro)) (g .set) (g .lanes) (now (g .bank)) (opened u) (there (c .before)) (eq-eqb _ 2 (c .if2 .taken))) refl refl
+
+lowest-lacking-requires : tie.Need-lowest-lacking-requires
+lowest-lacking-requires c κs =
+    let e = c .before in
+    let u = e .before .before in
+    let g = u .before .before .before .before .before .before .before .args in
+    apply-asked (g .count) (now (g .rw)) (now (g .ro)) (g .set) (g .lanes) (now (g .bank)) (opened u) (staged e)
+
+lowest-bad-requires : tie.Need-lowest-bad-requires
+lowest-bad-requires c κs =
+    let e = c .before .before .before in
+    let u = e .before .before in
+    let g = u .before .before .before .before .before .before .before .args in
+    let o = opened u in (
+      apply-asked (g .count) (now (g .rw)) (now (g .ro)) (g .set) (g .lanes) (now (g .bank)) o (staged e),
+      apply-listed (g .count) (now (g .rw)) (now (g .ro)) (g .set) (g .lanes) (now (g .bank)) o,
+    )
+
+same-length : tie.Need-same-length
+same-length c = search needs
+
+returns-3 : tie.Need-returns-3
+returns-3 c =
+    let k = c .before .before .before in
+    let e = k .before .before in
+    let u = e .before .before in
+    let g = u .before .before .before .before .before .before .before .args in
+    meets (apply-13 (g .count) (now (g .rw)) (now (g .ro)) (g .set) (g .lanes) (now (g .bank)) (opened u) (there (e .before)) (may e) (k .lowest-lacking .ensures) (c .if3 .taken)) refl refl
+
+same-length-2 : tie.Need-same-length-2
+same-length-2 c = search needs
+
+returns-4 : tie.Need-returns-4
+returns-4 c =
+    let x = c .before in
+    let y = x .before in
+    let k = y .before .before in
+    let e = k .before .before in
+    let u = e .before .before in
+    let g = u .before .before .before .before .before .before .before .args in
+    meets
+    (apply-14 (g .count) (now (g .rw)) (now (g .ro)) (g .set) (g .lanes) (now (g .bank)) (opened u) (there (e .before)) (may e) (k .lowest-lacking .ensures) (x .if3 .left)
+    (y .lowest-bad .ensures) (c .if4 .taken))
+    refl
+    refl
+
+copy-all-requires : tie.Need-copy-all-requires
+copy-all-requires c κs =
+    let e = c .before .before .before .before .before .before .before in
+    let u = e .before .before in
+    let g = u .before .before .before .before .before .before .before .args in
+    let o = opened u in (
+      apply-asked (g .count) (now (g .rw)) (now (g .ro)) (g .set) (g .lanes) (now (g .bank)) o (staged e),
+      apply-listed (g .count) (now (g .rw)) (now (g .ro)) (g .set) (g .lanes) (now (g .bank)) o,
+    )
+
+returns-5 : tie.Need-returns-5
+returns-5 c =
+    let k = c .before .before .before in
+    let g = k .before .before .before .before .args in
+    meets (call-shut (g .count) (now (g .rw)) (now (g .ro)) (Call.Apply (g .set) (g .lanes)) (now (g .bank)) _ (rw (c .before .g .given .1) at (k .admit .ensures))) refl refl
+
+same-length-3 : tie.Need-same-length-3
+same-length-3 c = search needs
+
+returns-6 : tie.Need-returns-6
+returns-6 c =
+    let l = c .before .before in
+    let z = l .before .before in
+    let x = z .before in
+    let y = x .before in
+    let k = y .before .before in
+    let e = k .before .before in
+    let u = e .before .before in
+    let g = u .before .before .before .before .before .before .before .args in
+    meets
+    (apply-done (g .count) (now (g .rw)) (now (g .ro)) (g .set) (g .lanes) (now (g .bank)) (opened u) (there (e .before)) (may e) (k .lowest-lacking .ensures) (x .if3 .left)
+    (y .lowest-bad .ensures) (z .if4 .left))
+    refl
+    (l .copy-all .ensures)
+
+pub apply-spec : {M : Type 1} → statement M
+apply-spec =
+    tie.close
+    (tie.spec
+    admit-requires
+    enum-known-g
+    enum-known-g-2
+    returns
+    returns-2
+    lowest-lacking-requires
+    lowest-bad-requires
+    same-length
+    returns-3
+    same-length-2
+    returns-4
+    copy-all-requires
+    returns-5
+    same-length-3
+    returns-6)

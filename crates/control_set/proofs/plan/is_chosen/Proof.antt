@@ -1,0 +1,21 @@
+-- `is_chosen` meets its contract.
+use Prim.Native.Nat.{_-_, _/_, _^_}
+use lib.Bits.{and-mask}
+use borrow.Author.Needs.{needs}
+use Rattle.control_set.proofs.plan.is_chosen.Statement.{statement}
+use Rattle.control_set.proofs.plan.is_chosen.Tie as tie
+
+sub-result : tie.Need-sub-result
+sub-result c = search needs
+
+cast-result : tie.Need-cast-result
+cast-result c = search needs
+
+shr-result : tie.Need-shr-result
+shr-result c = search needs
+
+returns : tie.Need-returns
+returns c = rw (and-mask (c .args .lanes / 2 ^ (c .args .lane - 1)) 1)
+
+pub is-chosen-spec : {M : Type 1} → statement M
+is-chosen-spec = tie.close (tie.spec sub-result cast-result shr-result returns)

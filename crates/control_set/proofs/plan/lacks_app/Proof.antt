@@ -1,0 +1,19 @@
+-- `lacks_app` meets its contract.
+use borrow.Author.Needs.{needs}
+use Rattle.control_set.proofs.plan.lacks_app.Statement.{statement}
+use Rattle.control_set.proofs.plan.lacks_app.Tie as tie
+
+is-chosen-requires : tie.Need-is-chosen-requires
+is-chosen-requires c κs = search needs
+
+app-of-requires : tie.Need-app-of-requires
+app-of-requires c κs = search needs
+
+is-app-requires : tie.Need-is-app-requires
+is-app-requires c κs = search needs
+
+returns : tie.Need-returns
+returns c = rw (c .before .before .is-chosen .ensures, c .is-app .ensures, c .before .app-of .ensures)
+
+pub lacks-app-spec : {M : Type 1} → statement M
+lacks-app-spec = tie.close (tie.spec is-chosen-requires app-of-requires is-app-requires returns)

@@ -1,0 +1,89 @@
+-- Apply in an entry's numbers: which lanes it copies, which it finds bad, and the copy, field by field.
+use mathlib.Core.Path.{_≡_}
+use mathlib.Core.Bool.{Bool, true, false, _&&_, not, cond}
+use mathlib.Core.List.{List}
+use Prim.Native.Nat.{ℕ, suc, _+_, _*_, _≤_, _<_}
+use lib.ListN.{length, getD}
+use Rattle.rules.specs.declared.Entry.{Entry}
+use Rattle.rules.specs.Descriptor.{isApp, hasApp}
+use Rattle.rules.specs.Numbers.{any}
+use Rattle.rules.specs.Load.{mapOf, rwEntries}
+use Rattle.rules.specs.Place.{nothing, partsOf, widthOf}
+use Rattle.rules.specs.Accept.{fromBits}
+use Rattle.rules.specs.Layout.{bankSize}
+use Rattle.rules.specs.Refuse.{chooses}
+use Rattle.rules.specs.Bank.{Bank, appSelIn, loop}
+use Rattle.rules.specs.Demands.{Accepted}
+use Rattle.rules.proofs.Lanes.{Width}
+use Rattle.control_set.specs.declared.plan.Chosen.{Chosen}
+use Rattle.control_set.specs.declared.plan.Fields.{Fields}
+use Rattle.control_set.specs.Field.{bitsAt, withBits}
+use Rattle.control_set.specs.Values.{valuesNumber, signedIn, allowedBy}
+
+-- a staged set, and a bank for it
+pub record Asked (c : Chosen) (b : Bank) : Type 0 where
+  pub count : c .count ≤ 15
+  pub staged : c .set < 2
+  pub size : bankSize ≤ length b
+
+-- the RW string of strings that load, and how many entries it has
+pub record Listed (count : ℕ) (first : List ℕ) (n : ℕ) : Type 0 where
+  pub last : List ℕ
+  pub ok : Accepted count first last
+  pub all : length (rwEntries count first) ≡ n
+
+-- the fields of an entry, in a set's 256 bytes
+pub record Spread (f : Fields) : Type 0 where
+  pub whole : 0 < f .parts → Width (f .width)
+  pub inside : f .offset + f .parts * f .width ≤ 256
+
+abbrev pub fieldsOf : Entry → Fields
+fieldsOf e =
+    record {
+      mask = e .mask;
+      codes = e .codes;
+      offset = e .offset;
+      parts = partsOf e;
+      width = widthOf e;
+      values = valuesNumber (e .id);
+    }
+
+-- k is the lowest lane below `top` at which f is true; `top` where there is none
+pub record Least (top k : ℕ) (f : ℕ → Bool) : Type 0 where
+  pub low : 1 ≤ k
+  pub le : k ≤ top
+  pub below : (i : ℕ) → 1 ≤ i → i < k → f i ≡ false
+  pub hit : k < top → f k ≡ true
+
+-- 13
+abbrev pub lacksBy : Chosen → Bank → ℕ → Bool
+lacksBy c b i = chooses (c .lanes) i && not (isApp (c .count) (appSelIn b (c .set) i))
+
+abbrev pub copiesBy : Chosen → ℕ → Bank → ℕ → Bool
+copiesBy c mask b i = chooses (c .lanes) i && hasApp (c .count) mask (appSelIn b (c .set) i)
+
+-- 14: of a field, of an entry, of a list of entries
+unfoldable pub badAt : Chosen → Fields → Bank → ℕ → ℕ → Bool
+badAt c f b p i =
+    copiesBy c (f .mask) b i
+    && not (allowedBy (f .values) (f .codes) (fromBits (signedIn (f .values)) (f .width) (bitsAt b (c .set) (f .offset) p (f .width) i)))
+
+unfoldable pub badIn : Chosen → Fields → Bank → ℕ → Bool
+badIn c f b i = any (f .parts) λ p. badAt c f b p i
+
+unfoldable pub badAmong : Chosen → List Entry → Bank → ℕ → Bool
+badAmong c l b i = any (length l) λ e. badIn c (fieldsOf (getD l e nothing)) b i
+
+-- the copy: of a field, a part, an entry, a list of entries; the staged set is read from the bank b₀
+unfoldable pub copyLane : Chosen → Fields → Bank → ℕ → ℕ → Bank → Bank
+copyLane c f b₀ p i b =
+    cond (copiesBy c (f .mask) b₀ i) (withBits b 2 (f .offset) p (f .width) i (bitsAt b₀ (c .set) (f .offset) p (f .width) i)) b
+
+unfoldable pub copyPart : Chosen → Fields → Bank → ℕ → Bank → Bank
+copyPart c f b₀ p = loop 8 (λ j. copyLane c f b₀ p (suc j))
+
+unfoldable pub copyEntry : Chosen → Fields → Bank → Bank → Bank
+copyEntry c f b₀ = loop (f .parts) (λ p. copyPart c f b₀ p)
+
+unfoldable pub copyAmong : Chosen → List Entry → Bank → Bank → Bank
+copyAmong c l b₀ = loop (length l) (λ e. copyEntry c (fieldsOf (getD l e nothing)) b₀)

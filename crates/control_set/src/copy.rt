@@ -1,0 +1,86 @@
+// Apply's copy: the chosen lanes' fields, from a staged set to the active set.
+ghost use mathlib.Core.Path.{_≡_};
+ghost use Prim.Native.Nat.{_^_, _≤_, _<_};
+ghost use lib.ListN.{length, getD, set};
+ghost use Rattle.rules.specs.Load.{rwEntries};
+ghost use Rattle.rules.specs.Bank.{merge};
+ghost use Rattle.control_set.specs.Field.{Room, Spot, bitsAt, withBits};
+ghost use Rattle.control_set.specs.Plan.{Asked, Listed, Spread, copyLane, copyPart, copyEntry, copyAmong};
+use crate::bank::read_field;
+use crate::field::merged;
+use crate::plan::Chosen;
+use crate::plan::Fields;
+use crate::plan::copies;
+use crate::plan::fields_of;
+use descriptor::entry_from;
+
+// The copier: bits into a byte of the active set, which is all that it is lent.
+fn put_bits(active: &mut [u8], at: usize, bit: usize, width: usize, bits: u8)
+    requires { ⌜ (at < length (now active)) × Room bit width × (bits < 2 ^ width) ⌝ }
+    ensures { λ _. ⌜ now (active .exit) ≡ set (now (active .entry)) at (merge (getD (now (active .entry)) at 0) bit width bits) ⌝ }
+{
+    active[at] = merged(active[at], bit, width, bits);
+}
+
+// A field's bits, from a staged set.
+fn copy_field(bank: &mut [u8], staged: usize, offset: usize, part: usize, width: usize, lane: usize)
+    requires { ⌜ Spot (now bank) staged offset part width lane ⌝ }
+    ensures { λ _. ⌜ now (bank .exit) ≡ withBits (now (bank .entry)) 2 offset part width lane (bitsAt (now (bank .entry)) staged offset part width lane) ⌝ }
+{
+    let bits = read_field(bank, staged, offset, part, width, lane);
+    let first = (lane - 1) * width;
+    let at = offset + part * width + first / 8;
+    put_bits(&mut bank[512..768], at, first % 8, width, bits);
+}
+
+// A field of a lane, if it is copied.
+fn copy_lane(chosen: Chosen, f: Fields, part: usize, lane: usize, bank: &mut [u8])
+    requires { ⌜ Asked chosen (now bank) × Spread f ⌝ }
+    requires { ⌜ (part < f .parts) × (1 ≤ lane) × (lane ≤ 8) ⌝ }
+    ensures { λ _. ⌜ now (bank .exit) ≡ copyLane chosen f (now (bank .entry)) part lane (now (bank .entry)) ⌝ }
+{
+    if copies(chosen, f.mask, lane, bank) {
+        copy_field(bank, chosen.set, f.offset, part, f.width, lane);
+    }
+}
+
+// A part.
+fn copy_part(chosen: Chosen, f: Fields, part: usize, bank: &mut [u8])
+    requires { ⌜ Asked chosen (now bank) × Spread f × (part < f .parts) ⌝ }
+    ensures { λ _. ⌜ now (bank .exit) ≡ copyPart chosen f (now (bank .entry)) part (now (bank .entry)) ⌝ }
+{
+    let mut j = 0;
+    while j < 8 {
+        copy_lane(chosen, f, part, j + 1, bank);
+        j += 1;
+    }
+}
+
+// An entry.
+fn copy_entry(chosen: Chosen, f: Fields, bank: &mut [u8])
+    requires { ⌜ Asked chosen (now bank) × Spread f ⌝ }
+    ensures { λ _. ⌜ now (bank .exit) ≡ copyEntry chosen f (now (bank .entry)) (now (bank .entry)) ⌝ }
+{
+    let mut part = 0;
+    while part < f.parts {
+        copy_part(chosen, f, part, bank);
+        part += 1;
+    }
+}
+
+// All RW entries.
+pub fn copy_all(chosen: Chosen, rw: &[u8], entries: usize, bank: &mut [u8])
+    requires { ⌜ Asked chosen (now bank) × Listed (chosen .count) (now rw) entries ⌝ }
+    ensures { λ _. ⌜ now (bank .exit) ≡ copyAmong chosen (rwEntries (chosen .count) (now (rw .entry))) (now (bank .entry)) (now (bank .entry)) ⌝ }
+{
+    let mut number = 0;
+    let mut at = 0;
+    let mut sum = 0;
+    while number < entries {
+        let e = entry_from(chosen.count, rw, at, sum);
+        copy_entry(chosen, fields_of(e), bank);
+        number += 1;
+        at += e.length;
+        sum += e.memory;
+    }
+}
