@@ -5,7 +5,7 @@
    and a refused call changes none.
    Every number may have any value: what doesn't exist is refused. In an answer, `refusal` is 0 if the call is accepted,
    otherwise document 01's number; `at` is then the entry that 1 to 7 name, else 0. All other members are 0 in a refused
-   answer. The library needs `memset` from the C library, nothing else. */
+   answer, but for the reader's position. The library needs `memset` from the C library, nothing else. */
 #ifndef VCS_H
 #define VCS_H
 
@@ -62,6 +62,16 @@ typedef struct {
     int64_t number;
 } vcs_answer;
 
+/* What the reader's step gives: an entry's start and length, or the end (`end` is 1, and these are 0); and the position after
+   it, which is the one before unless an entry was given. */
+typedef struct {
+    size_t refusal;
+    size_t end;
+    size_t start;
+    size_t length;
+    size_t position;
+} vcs_taken;
+
 /* The load: the check of both strings. Refusals 9, 1 to 7. */
 vcs_loaded vcs_load(size_t count, const uint8_t *rw, size_t rw_length, const uint8_t *ro, size_t ro_length);
 
@@ -108,6 +118,10 @@ vcs_answer vcs_byte_read(size_t count, const uint8_t *rw, size_t rw_length, cons
 /* Weight: the active number of a 12h field, in thousandths. Refusals 9, 8, 1 to 7, 10. */
 vcs_answer vcs_weight(size_t count, const uint8_t *rw, size_t rw_length, const uint8_t *ro, size_t ro_length,
                       const uint8_t *bank, size_t bank_length, size_t entry, size_t lane);
+
+/* The reader's step over one string at any position: the entry that begins there, or the end if no byte is left from it on.
+   From 0 on, each step at the position that the one before gave, it gives the string's entries in order. Refusals 9, 1, 2. */
+vcs_taken vcs_take(size_t count, const uint8_t *string, size_t string_length, size_t position);
 
 #ifdef __cplusplus
 }

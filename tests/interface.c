@@ -45,6 +45,13 @@ AT(vcs_answer, at, 1);
 _Static_assert(offsetof(vcs_answer, number) == 2 * sizeof(size_t), "vcs_answer.number stands at number 2");
 _Static_assert(_Generic(((vcs_answer *)0)->number, int64_t: 1, default: 0), "vcs_answer.number is an int64_t");
 
+_Static_assert(sizeof(vcs_taken) == 5 * sizeof(size_t), "vcs_taken has five numbers");
+AT(vcs_taken, refusal, 0);
+AT(vcs_taken, end, 1);
+AT(vcs_taken, start, 2);
+AT(vcs_taken, length, 3);
+AT(vcs_taken, position, 4);
+
 _Static_assert(_Generic(&vcs_load,
     vcs_loaded (*)(size_t, const uint8_t *, size_t, const uint8_t *, size_t): 1, default: 0), "vcs_load");
 _Static_assert(_Generic(&vcs_entry,
@@ -82,6 +89,9 @@ _Static_assert(_Generic(&vcs_byte_read,
 _Static_assert(_Generic(&vcs_weight,
     vcs_answer (*)(size_t, const uint8_t *, size_t, const uint8_t *, size_t, const uint8_t *, size_t, size_t, size_t): 1,
     default: 0), "vcs_weight");
+
+_Static_assert(_Generic(&vcs_take,
+    vcs_taken (*)(size_t, const uint8_t *, size_t, size_t): 1, default: 0), "vcs_take");
 
 static int checks = 0;
 
@@ -172,6 +182,14 @@ static void owner(const char *name, map m, size_t set, size_t offset, size_t bit
 {
     vcs_owned answer = vcs_owner(LENT(m), set, offset, bit);
     check(name, m, &answer, sizeof answer, expected);
+}
+
+/* A step over the RW string. */
+static void take(const char *name, map m, size_t position, const size_t expected[6])
+{
+    vcs_taken answer = vcs_take(m.count, lend(0, m.rw, m.rw_length), m.rw_length, position);
+    same(name, &answer, sizeof answer, expected);
+    kept(name, 0, m.rw, m.rw_length);
 }
 
 /* The lent bank stands at the start of `bank`. A test first gives `wanted` the bytes that the call must change: every
@@ -702,6 +720,40 @@ static void weights(void)
           NUMBER(-40));
 }
 
+/* The answers of a step: an entry, the end, a refusal, each with the position after it. */
+#define ENTRY(start, length, position) NUMBERS(0, 0, start, length, position)
+#define END(position) NUMBERS(0, 1, 0, 0, position)
+#define STAYS(number, position) NUMBERS(number, 0, 0, 0, position)
+
+static void takes(void)
+{
+    static const uint8_t zeros[121];
+    map m = THE_MAP;
+    take("entry 0", m, 0, ENTRY(0, 5, 5));
+    take("entry 1", m, 5, ENTRY(5, 5, 10));
+    take("entry 2", m, 10, ENTRY(10, 5, 15));
+    take("the end", m, 15, END(15));
+    take("past the end", m, 16, END(16));
+    take("position 2^32", m, (size_t)1 << 32, END((size_t)1 << 32));
+    take("the largest position", m, SIZE_MAX, END(SIZE_MAX));
+    take("inside an entry", m, 3, STAYS(2, 3));
+    take("one byte left", m, 14, STAYS(1, 14));
+    take("no string", (map){15, NONE, NONE}, 0, END(0));
+    m.count = 9;
+    take("Length 5 with A 2", m, 5, ENTRY(5, 5, 10));
+    take("Length 5 of 02h with A 2", m, 0, STAYS(2, 0));
+    m.count = 16;
+    take("count 16", m, 5, STAYS(9, 5));
+    take("9 before the end", m, 15, STAYS(9, 15));
+    m.count = 0;
+    take("9 before 1", m, 14, STAYS(9, 14));
+    take("a string of 121 bytes", (map){4, zeros, 121, NONE}, 121, STAYS(9, 121));
+    take("a string of 120 bytes", (map){4, zeros, 120, NONE}, 120, END(120));
+    take("Length 0", (map){4, zeros, 120, NONE}, 118, STAYS(2, 118));
+    take("1 before 2", (map){4, BYTES(0x02, 0x03), NONE}, 0, STAYS(1, 0));
+    take("an RO parameter is no matter", (map){4, BYTES(0x11, 0x05, 0x00, 0x00, 0x00), NONE}, 0, ENTRY(0, 5, 5));
+}
+
 int main(void)
 {
     loads();
@@ -717,6 +769,7 @@ int main(void)
     byte_writes();
     byte_reads();
     weights();
+    takes();
     printf("interface: %d checks\n", checks);
     return 0;
 }

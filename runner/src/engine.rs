@@ -57,6 +57,17 @@ pub struct Answered {
     pub number: i64,
 }
 
+/// vcs_taken: an entry, or the end, and the position after it, the answer of the reader's step.
+#[repr(C)]
+#[derive(Clone, Copy, Debug, Default, PartialEq, Eq)]
+pub struct Taken {
+    pub refusal: usize,
+    pub end: usize,
+    pub start: usize,
+    pub length: usize,
+    pub position: usize,
+}
+
 impl Loaded {
     /// The entries of an accepted map, or those before the entry that refused it.
     pub fn entries(&self) -> usize {
@@ -78,7 +89,7 @@ macro_rules! refused {
 refused! { Loaded Located Placed Owned Answered }
 
 mod exports {
-    use super::{Answered, Loaded, Located, Owned, Placed};
+    use super::{Answered, Loaded, Located, Owned, Placed, Taken};
 
     extern "C" {
         pub fn vcs_load(count: usize, rw: *const u8, rw_length: usize, ro: *const u8, ro_length: usize) -> Loaded;
@@ -217,6 +228,8 @@ mod exports {
             entry: usize,
             lane: usize,
         ) -> Answered;
+
+        pub fn vcs_take(count: usize, string: *const u8, string_length: usize, position: usize) -> Taken;
     }
 }
 
@@ -288,4 +301,9 @@ pub fn byte_read(case: &Case, bank: &[u8], set: usize, offset: usize) -> Answere
 /// Weight.
 pub fn weight(case: &Case, bank: &[u8], entry: usize, lane: usize) -> Answered {
     given!(vcs_weight, case, bank.as_ptr(), bank.len(), entry, lane)
+}
+
+/// The reader's step.
+pub fn take(count: usize, string: &[u8], position: usize) -> Taken {
+    unsafe { exports::vcs_take(count, string.as_ptr(), string.len(), position) }
 }

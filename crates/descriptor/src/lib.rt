@@ -1,8 +1,10 @@
 // Reading: the load of both descriptor strings, where an entry stands, and an entry's own bytes.
 ghost use mathlib.Core.Path.{_≡_};
 ghost use mathlib.Core.List.{_++_};
-ghost use Prim.Native.Nat.{_≤_, _<_};
+ghost use Prim.Native.Nat.{_+_, _≤_, _<_};
 ghost use lib.ListN.{length, drop};
+ghost use Rattle.rules.specs.Parameter.{rowOf};
+ghost use Rattle.rules.specs.Descriptor.{maskBytes};
 ghost use Rattle.rules.specs.Load.{sized, loadOf};
 ghost use Rattle.rules.specs.MapProgram.{mapOutput};
 ghost use Rattle.rules.specs.Beside.{entryAnswer, entryBytes};
@@ -272,4 +274,14 @@ pub fn map_text(input: &[u8], out: &mut [u8; 1024]) -> usize
     }
     let count = input[0] as usize;
     put_strings(count, &input[2..rw_end], &input[ro_start..], out)
+}
+
+// The least Length of an ID, A included.
+pub fn least_length(count: usize, id: u8) -> usize
+    ensures { λ r. ⌜ r ≡ rowOf id .least + maskBytes count ⌝ }
+{
+    let classes = CLASSES;
+    let table = ROWS;
+    let row = row_of(&classes, &table, id);
+    ((row % 256) as usize) + mask_bytes(count)
 }

@@ -1,25 +1,25 @@
--- Applying: the bank's fields are copied one by one, the table's all at once.
--- The fields done so far are those below a limit, by the order of the loops: field e p i has the place 2048 e + 8 p + i.
+-- Applying: what it does to the fields of any bank, and that it keeps the relation of bank and table: the bank's fields are copied one
+-- by one, the table's all at once.
 use mathlib.Core.Path.{_≡_, refl, sym, ap, _∙_}
-use mathlib.Core.Bool.{Bool, true, false, _&&_, cond, and-false, and-true}
+use mathlib.Core.Logic.{_≢_}
+use mathlib.Core.Bool.{_&&_, not, cond}
 use mathlib.Core.List.{List}
-use Prim.Native.Nat.{ℕ, zero, suc, _+_, _*_, _≤_, _<_}
-use native.Mathlib.Nat.{le-mul-of-pos-right}
+use Prim.Native.Nat.{ℕ, zero, suc, _≤_, _<_}
 use native.Mathlib.Omega.{arith}
-use native.Mathlib.Decide.{ℕ-discrete, decLt}
-use lib.IntN.{ℤ}
-use lib.Dec.{T, ltb, eqb, eqb→eq}
-use borrow.Author.Tests.{ne-eqb, lt-ltb, le-ltb}
+use native.Mathlib.Decide.{ℕ-discrete}
+use lib.ListN.{length, getD}
+use lib.Dec.{T, T-not, ltb, eqb, eqb→eq, ltb→lt, lt→ltb}
 use Rattle.rules.specs.Load.{Map}
-use Rattle.rules.specs.Place.{entry, partsOf, widthOf, isRW}
+use Rattle.rules.specs.Place.{entry, partsOf, signedOf, widthOf, isRW}
+use Rattle.rules.specs.Accept.{fromBits}
+use Rattle.rules.specs.Layout.{bankSize}
 use Rattle.rules.specs.Bank.{Bank, getField, putField, numberIn, withNumber, bankCopies, loop, copyField, applyBank}
-use Rattle.rules.specs.Table.{Table, renumbered}
-use Rattle.rules.proofs.Tests.{and₄, by-test, is-true, is-false}
-use Rattle.rules.proofs.Lanes.{Width, width-pos}
-use Rattle.rules.proofs.Good.{GoodEntry, GoodMap, rw-held, entry-good, entry-ends}
-use Rattle.rules.proofs.Places.{Field, field-width, in-set}
-use Rattle.rules.proofs.Put.{eqb₄, ne₄}
-use Rattle.rules.proofs.Holds.{Holds, holds-ext, bits-of, number-fits, put-holds}
+use Rattle.rules.specs.Table.{Table, renumbered, stored}
+use Rattle.rules.proofs.Tests.{and₃, and₄, by-test, by-test₂, is-true, both-true}
+use Rattle.rules.proofs.Good.{GoodMap, rw-held}
+use Rattle.rules.proofs.Places.{Field, field-in-set, in-set}
+use Rattle.rules.proofs.Put.{eqb₄, other₄, get-put, get-put-other, get-put-any, put-elsewhere, put-size}
+use Rattle.rules.proofs.Holds.{Holds, holds-ext, field-lt, bits-of, number-fits, put-holds}
 
 -- an invariant through a loop
 pub loop-inv :
@@ -31,178 +31,198 @@ unfolding loop
 loop-inv zero f P b p step = p
 loop-inv (suc n) f P b p step = step n (loop n f b) (omega arith) (loop-inv n f P b p (λ j b′ l. step j b′ (omega arith)))
 
-ltb-same : (a n n′ : ℕ) → (a < n → a < n′) → (a < n′ → a < n) → ltb a n ≡ ltb a n′
-ltb-same a n n′ u v = go (decLt a n)
+-- what every turn of a loop keeps
+loop-keeps :
+    (n : ℕ) (f : ℕ → Bank → Bank) (P : Bank → Type 0) (b : Bank) → ((j : ℕ) (b′ : Bank) → j < n → P b′ → P (f j b′)) → P b → P (loop n f b)
+loop-keeps n f P b step p = loop-inv n f (λ _. P) b p step
+
+-- what turn k of a loop brings about, where P holds before it, and every turn keeps
+loop-turn :
+    (n : ℕ) (f : ℕ → Bank → Bank) (P Q : Bank → Type 0) (k : ℕ) (b : Bank)
+    → k < n
+    → ((j : ℕ) (b′ : Bank) → j < n → P b′ → P (f j b′))
+    → ((j : ℕ) (b′ : Bank) → j < n → Q b′ → Q (f j b′))
+    → ((b′ : Bank) → P b′ → Q (f k b′))
+    → P b
+    → Q (loop n f b)
+loop-turn n f P Q k b l kp kq turn p =
+    loop-inv n f (λ j b′. P b′ × (k < j → Q b′)) b (p, λ h. absurd (omega arith))
+    (λ j b′ h r. (kp j b′ h (r .0), λ past. go j b′ h past r (ℕ-discrete k j)))
+    .1 l
   where
-    go : Dec (a < n) → ltb a n ≡ ltb a n′
-    go (yes l) = lt-ltb a n l ∙ sym (lt-ltb a n′ (u l))
-    go (no l) = le-ltb a n (omega arith) ∙ sym (le-ltb a n′ (let x : ¬ (a < n′) = λ y. l (v y) in omega arith))
+    go : (j : ℕ) (b′ : Bank) → j < n → k < suc j → P b′ × (k < j → Q b′) → Dec (k ≡ j) → Q (f j b′)
+    go j b′ h past r (yes q) = rw q at (turn b′ (r .0))
+    go j b′ h past r (no ne) = kq j b′ h (r .1 (omega arith))
 
-module _ (m : Map) (g : GoodMap m) (tail : List ℕ) (t : Table) (b₀ : Bank) (s lanes : ℕ) (hs : s < 2) where
-  -- the table in which the RW fields below place n are copied from the bank b₀
-  abbrev upTo : ℕ → Table
-  upTo n =
-      renumbered t λ s′ e p i.
-      cond (eqb s′ 2 && (isRW m e && (ltb (2048 * e + 8 * p + i) n && bankCopies m b₀ s lanes e i))) (numberIn m b₀ s e p i) (t .numbers s′ e p i)
-
-  part-small : {s e p i : ℕ} → Field m s e p i → p < 256
-  part-small {s} {e} {p} f = omega (arith, in-set m g f, le-mul-of-pos-right p (width-pos (widthOf (entry m e)) (field-width m g f)))
-
-  parts-small : (e : ℕ) → e < m .rwCount → partsOf (entry m e) ≤ 256
-  parts-small e h = go (partsOf (entry m e)) (good .width) (good .room)
-    where
-      good : GoodEntry (entry m e)
-      good = entry-good m g 2 e (rw-held m g 2 e h)
-
-      go : (n : ℕ) → (0 < n → Width (widthOf (entry m e))) → n * widthOf (entry m e) ≤ entry m e .memory → n ≤ 256
-      go zero w r = omega arith
-      go (suc n) w r =
-          omega (arith, le-mul-of-pos-right (suc n) (width-pos (widthOf (entry m e)) (w (omega arith))), entry-ends m g 2 e (rw-held m g 2 e h))
-
-  -- a field at its turn changes no other, and itself only if it is copied
-  up-one :
-      (e p i : ℕ)
-      → Field m 2 e p i
-      → (s′ e′ p′ i′ : ℕ)
-      → Field m s′ e′ p′ i′
-      → (s′ ≡ 2 → e′ ≡ e → p′ ≡ p → i′ ≡ i → bankCopies m b₀ s lanes e i ≡ false)
-      → upTo (2048 * e + 8 * p + i) .numbers s′ e′ p′ i′ ≡ upTo (2048 * e + 8 * p + suc i) .numbers s′ e′ p′ i′
-  up-one e p i f s′ e′ p′ i′ f′ h = go (ℕ-discrete (2048 * e′ + 8 * p′ + i′) (2048 * e + 8 * p + i)) (ℕ-discrete s′ 2)
-    where
-      go : Dec (2048 * e′ + 8 * p′ + i′ ≡ 2048 * e + 8 * p + i) → Dec (s′ ≡ 2)
-          → upTo (2048 * e + 8 * p + i) .numbers s′ e′ p′ i′ ≡ upTo (2048 * e + 8 * p + suc i) .numbers s′ e′ p′ i′
-      go (no ne) d = rw (ltb-same (2048 * e′ + 8 * p′ + i′) (2048 * e + 8 * p + i) (2048 * e + 8 * p + suc i) (λ l. omega arith) (λ l. omega arith))
-      go (yes q) (no ne) = rw (ne-eqb s′ 2 ne)
-      go (yes q) (yes es) =
-          let h₁ : p < 256 = part-small f in
-          let h₂ : p′ < 256 = part-small f′ in
-          let t₁ : i ≤ 8 = f .top in
-          let t₂ : i′ ≤ 8 = f′ .top in
-          let l₁ : 1 ≤ i = f .low in
-          let l₂ : 1 ≤ i′ = f′ .low in
-          let ee : e′ ≡ e = omega arith in
-          let ep : p′ ≡ p = omega arith in
-          let ei : i′ ≡ i = omega arith in
-          rw (ee, ep, ei, h es ee ep ei, and-false (ltb (2048 * e + 8 * p + i) (2048 * e + 8 * p + i)), and-false (ltb (2048 * e + 8 * p + i) (2048 * e + 8 * p + suc i)))
-
-  -- copying a field's bits is storing its number
-  copy-number : (e p i : ℕ) (b : Bank) → Field m s e p i → putField m b 2 e p i (getField m b₀ s e p i) ≡ withNumber m b 2 e p i (numberIn m b₀ s e p i)
-  unfolding withNumber
-  copy-number e p i b f = ap (putField m b 2 e p i) (sym (bits-of m g b₀ f))
-
-  copy-holds :
-      (e p i : ℕ) (b : Bank)
-      → e < m .rwCount
-      → Field m 2 e p i
-      → Holds m tail b (upTo (2048 * e + 8 * p + i))
-      → Holds m tail (copyField m s lanes b₀ e p i b) (upTo (2048 * e + 8 * p + suc i))
-  unfolding copyField
-  copy-holds e p i b he f r =
-      by-test (λ x. Holds m tail x (upTo (2048 * e + 8 * p + suc i))) (bankCopies m b₀ s lanes e i) (putField m b 2 e p i (getField m b₀ s e p i)) b
-      (λ c. rw (copy-number e p i b from)
-      (holds-ext m tail _ _ (upTo (2048 * e + 8 * p + suc i)) (put-holds m g tail b (upTo (2048 * e + 8 * p + i)) r 2 e p i (numberIn m b₀ s e p i) f (number-fits m g b₀ from))
-      (stored-here c) refl))
-      (λ n. holds-ext m tail b _ _ r (λ s′ e′ p′ i′ f′. up-one e p i f s′ e′ p′ i′ f′ (λ _ _ _ _. is-false (bankCopies m b₀ s lanes e i) n)) refl)
-    where
-      from : Field m s e p i
-      from = record { set = omega arith; ent = rw-held m g s e he; part = f .part; low = f .low; top = f .top }
-
-      here : T (bankCopies m b₀ s lanes e i) → (s′ e′ p′ i′ : ℕ) → T (eqb₄ 2 e p i s′ e′ p′ i′) → numberIn m b₀ s e p i ≡ upTo (2048 * e + 8 * p + suc i) .numbers s′ e′ p′ i′
-      here c s′ e′ p′ i′ y =
-          let (a₁, a₂, a₃, a₄) = and₄ (eqb s′ 2) (eqb e′ e) (eqb p′ p) (eqb i′ i) y in
-          rw (
-            eqb→eq s′ 2 a₁,
-            eqb→eq e′ e a₂,
-            eqb→eq p′ p a₃,
-            eqb→eq i′ i a₄,
-            lt-ltb e (m .rwCount) he,
-            lt-ltb (2048 * e + 8 * p + i) (2048 * e + 8 * p + suc i) (omega arith),
-            is-true (bankCopies m b₀ s lanes e i) c,
-          )
-
-      stored-here :
-          T (bankCopies m b₀ s lanes e i)
-          → (s′ e′ p′ i′ : ℕ)
-          → Field m s′ e′ p′ i′
-          → cond (eqb₄ 2 e p i s′ e′ p′ i′) (numberIn m b₀ s e p i) (upTo (2048 * e + 8 * p + i) .numbers s′ e′ p′ i′)
-          ≡ upTo (2048 * e + 8 * p + suc i) .numbers s′ e′ p′ i′
-      stored-here c s′ e′ p′ i′ f′ =
-          by-test
-          (λ n. n ≡ upTo (2048 * e + 8 * p + suc i) .numbers s′ e′ p′ i′)
-          (eqb₄ 2 e p i s′ e′ p′ i′)
-          (numberIn m b₀ s e p i)
-          (upTo (2048 * e + 8 * p + i) .numbers s′ e′ p′ i′)
-          (here c s′ e′ p′ i′)
-          (λ ne. up-one e p i f s′ e′ p′ i′ f′ (λ a₁ a₂ a₃ a₄. absurd (ne₄ 2 e p i s′ e′ p′ i′ ne a₁ a₂ a₃ a₄)))
-
+module _ (m : Map) (g : GoodMap m) (s lanes : ℕ) (b₀ : Bank) where
   abbrev lanesOf : ℕ → ℕ → Bank → Bank
   lanesOf e p = loop 8 (λ j. copyField m s lanes b₀ e p (suc j))
 
-  lane-loop : (e p : ℕ) (b : Bank)
+  rw-field : {e p j : ℕ} → e < m .rwCount → p < partsOf (entry m e) → j < 8 → Field m 2 e p (suc j)
+  rw-field {e} he hp hj = record { set = omega arith; ent = rw-held m g 2 e he; part = hp; low = omega arith; top = omega arith }
+
+  -- a copy of a field keeps P
+  abbrev pub CopiesKeep : (Bank → Type 0) → Type 0
+  CopiesKeep P =
+      (e p i : ℕ) (b : Bank)
+      → e < m .rwCount
+      → Field m 2 e p i
+      → T (bankCopies m b₀ s lanes e i)
+      → P b
+      → P (putField m b 2 e p i (getField m b₀ s e p i))
+
+  -- what every copy keeps, apply keeps
+  module _ (P : Bank → Type 0) (copy : CopiesKeep P) where
+    lane-keeps : (e p j : ℕ) (b : Bank) → e < m .rwCount → p < partsOf (entry m e) → j < 8 → P b → P (copyField m s lanes b₀ e p (suc j) b)
+    unfolding copyField
+    lane-keeps e p j b he hp hj r =
+        by-test P (bankCopies m b₀ s lanes e (suc j)) _ b (λ c. copy e p (suc j) b he (rw-field he hp hj) c r) (λ _. r)
+
+    lanes-keep : (e p : ℕ) (b : Bank) → e < m .rwCount → p < partsOf (entry m e) → P b → P (lanesOf e p b)
+    lanes-keep e p b he hp = loop-keeps 8 _ P b (λ j b′. lane-keeps e p j b′ he hp)
+
+    parts-keep : (e : ℕ) (b : Bank) → e < m .rwCount → P b → P (loop (partsOf (entry m e)) (lanesOf e) b)
+    parts-keep e b he = loop-keeps (partsOf (entry m e)) _ P b (λ p b′. lanes-keep e p b′ he)
+
+    pub apply-keeps : P b₀ → P (applyBank m s lanes b₀)
+    unfolding applyBank
+    apply-keeps = loop-keeps (m .rwCount) _ P b₀ parts-keep
+
+  -- what the turn of one field brings about, where P holds before it, and every copy keeps
+  apply-turn :
+      (P Q : Bank → Type 0) (e p j : ℕ)
       → e < m .rwCount
       → p < partsOf (entry m e)
-      → Holds m tail b (upTo (2048 * e + 8 * p + 1))
-      → Holds m tail (lanesOf e p b) (upTo (2048 * e + 8 * p + 9))
-  lane-loop e p b he hp r =
-      loop-inv 8 (λ j. copyField m s lanes b₀ e p (suc j)) (λ j b′. Holds m tail b′ (upTo (2048 * e + 8 * p + suc j))) b r
-      (λ j b′ l r′. copy-holds e p (suc j) b′ he (record { set = omega arith; ent = rw-held m g 2 e he; part = hp; low = omega arith; top = omega arith }) r′)
+      → j < 8
+      → CopiesKeep P
+      → CopiesKeep Q
+      → ((b : Bank) → P b → Q (copyField m s lanes b₀ e p (suc j) b))
+      → P b₀
+      → Q (applyBank m s lanes b₀)
+  unfolding applyBank
+  apply-turn P Q e p j he hp hj kp kq turn =
+      loop-turn (m .rwCount) _ P Q e b₀ he (parts-keep P kp) (parts-keep Q kq)
+      λ b. loop-turn (partsOf (entry m e)) _ P Q p b hp (λ p′ b′. lanes-keep P kp e p′ b′ he) (λ p′ b′. lanes-keep Q kq e p′ b′ he)
+      λ b. loop-turn 8 _ P Q j b hj (λ j′ b′. lane-keeps P kp e p j′ b′ he hp) (λ j′ b′. lane-keeps Q kq e p j′ b′ he hp) turn
 
-  part-loop : (e : ℕ) (b : Bank)
-      → e < m .rwCount
-      → Holds m tail b (upTo (2048 * e + 1))
-      → Holds m tail (loop (partsOf (entry m e)) (lanesOf e) b) (upTo (2048 * e + 8 * partsOf (entry m e) + 1))
-  part-loop e b he r =
-      loop-inv (partsOf (entry m e)) (lanesOf e) (λ p b′. Holds m tail b′ (upTo (2048 * e + 8 * p + 1))) b
-      (let q : 2048 * e + 8 * 0 + 1 ≡ 2048 * e + 1 = omega arith in rw q r)
-      (λ p b′ l r′. let q : 2048 * e + 8 * suc p + 1 ≡ 2048 * e + 8 * p + 9 = omega arith in rw q (lane-loop e p b′ he l r′))
+  module _ (size : bankSize ≤ length b₀) where
+    abbrev Sized : (Bank → Type 0) → Bank → Type 0
+    Sized P b = (bankSize ≤ length b) × P b
 
-  -- past the last part of entry e stands no field before entry e + 1
-  past : (e : ℕ) → e < m .rwCount → (s′ e′ p′ i′ : ℕ) → Field m s′ e′ p′ i′ → upTo (2048 * e + 8 * partsOf (entry m e) + 1) .numbers s′ e′ p′ i′ ≡ upTo (2048 * suc e + 1) .numbers s′ e′ p′ i′
-  past e he s′ e′ p′ i′ f′ = go (ℕ-discrete e′ e)
-    where
-      h : p′ < 256
-      h = part-small f′
+    copy-size : CopiesKeep (λ b. bankSize ≤ length b)
+    copy-size e p i b he f c z = rw (put-size m g b z 2 e p i _ f (field-lt m b₀ s e p i)) z
 
-      most : partsOf (entry m e) ≤ 256
-      most = parts-small e he
+    -- a field that is not copied keeps its bits
+    field-left :
+        (s′ e p i : ℕ)
+        → Field m s′ e p i
+        → T (not (eqb s′ 2 && (isRW m e && bankCopies m b₀ s lanes e i)))
+        → getField m (applyBank m s lanes b₀) s′ e p i ≡ getField m b₀ s′ e p i
+    field-left s′ e p i f out =
+        apply-keeps (Sized λ b. getField m b s′ e p i ≡ getField m b₀ s′ e p i)
+        (λ e′ p′ i′ b he f′ c (z, q). (
+          copy-size e′ p′ i′ b he f′ c z,
+          get-put-other m g b z 2 e′ p′ i′ _ f′ (field-lt m b₀ s e′ p′ i′) s′ e p i f (other₄ 2 e′ p′ i′ s′ e p i (not-copied e′ p′ i′ he c)) ∙ q,
+        ))
+        (size, refl)
+        .1
+      where
+        not-copied : (e′ p′ i′ : ℕ) → e′ < m .rwCount → T (bankCopies m b₀ s lanes e′ i′) → s′ ≡ 2 → e ≡ e′ → p ≡ p′ → i ≢ i′
+        not-copied e′ p′ i′ he c es ee ep ei =
+            T-not (eqb s′ 2 && (isRW m e && bankCopies m b₀ s lanes e i)) out (rw (es, ee, ei) (both-true (isRW m e′) _ (lt→ltb _ _ he) c))
 
-      lo : 1 ≤ i′
-      lo = f′ .low
+    -- a field that is copied has the staged bits
+    field-copied :
+        (e p i : ℕ)
+        → e < m .rwCount
+        → Field m 2 e p i
+        → T (bankCopies m b₀ s lanes e i)
+        → getField m (applyBank m s lanes b₀) 2 e p i ≡ getField m b₀ s e p i
+    unfolding copyField
+    field-copied e p zero he f c = absurd (omega (arith, f .low))
+    field-copied e p (suc j) he f c =
+        apply-turn (λ b. bankSize ≤ length b) Q e p j he (f .part) (f .top) copy-size keep
+        (λ b z.
+        rw (is-true (bankCopies m b₀ s lanes e (suc j)) c)
+        (copy-size e p (suc j) b he f c z, get-put m g b z 2 e p (suc j) _ f (field-lt m b₀ s e p (suc j))))
+        size
+        .1
+      where
+        Q : Bank → Type 0
+        Q = Sized λ b. getField m b 2 e p (suc j) ≡ getField m b₀ s e p (suc j)
 
-      hi : i′ ≤ 8
-      hi = f′ .top
+        keep : CopiesKeep Q
+        keep e′ p′ i′ b he′ f′ c′ (z, q) = (
+          copy-size e′ p′ i′ b he′ f′ c′ z,
+          get-put-any m g b z 2 e′ p′ i′ _ f′ (field-lt m b₀ s e′ p′ i′) 2 e p (suc j) f
+              ∙ by-test (λ n. n ≡ getField m b₀ s e p (suc j)) (eqb₄ 2 e′ p′ i′ 2 e p (suc j)) _ _
+              (λ y. let (a₁, a₂, a₃, a₄) = and₄ (eqb 2 2) (eqb e e′) (eqb p p′) (eqb (suc j) i′) y in
+              rw (eqb→eq e e′ a₂, eqb→eq p p′ a₃, eqb→eq (suc j) i′ a₄))
+              (λ _. q),
+        )
 
-      go : Dec (e′ ≡ e) → upTo (2048 * e + 8 * partsOf (entry m e) + 1) .numbers s′ e′ p′ i′ ≡ upTo (2048 * suc e + 1) .numbers s′ e′ p′ i′
-      go (yes q) =
-          let hp : p′ < partsOf (entry m e) = rw q at (f′ .part) in
-          rw (ltb-same (2048 * e′ + 8 * p′ + i′) (2048 * e + 8 * partsOf (entry m e) + 1) (2048 * suc e + 1) (λ l. omega (arith, h, most, lo, hi)) (λ l. omega (arith, h, lo, hi)))
-      go (no ne) =
-          rw (ltb-same (2048 * e′ + 8 * p′ + i′) (2048 * e + 8 * partsOf (entry m e) + 1) (2048 * suc e + 1) (λ l. omega (arith, h, most, lo, hi)) (λ l. omega (arith, h, most, lo, hi)))
+    -- any field: the staged bits if it is copied, else its own
+    pub apply-field :
+        (s′ e p i : ℕ)
+        → Field m s′ e p i
+        → getField m (applyBank m s lanes b₀) s′ e p i
+        ≡ cond (eqb s′ 2 && (isRW m e && bankCopies m b₀ s lanes e i)) (getField m b₀ s e p i) (getField m b₀ s′ e p i)
+    apply-field s′ e p i f =
+        by-test
+        (λ n. getField m (applyBank m s lanes b₀) s′ e p i ≡ n)
+        (eqb s′ 2 && (isRW m e && bankCopies m b₀ s lanes e i))
+        (getField m b₀ s e p i)
+        (getField m b₀ s′ e p i)
+        (λ y. let (a₁, a₂, a₃) = and₃ (eqb s′ 2) (isRW m e) (bankCopies m b₀ s lanes e i) y in
+        let he : e < m .rwCount = ltb→lt _ _ a₂ in
+        rw (eqb→eq s′ 2 a₁) (field-copied e p i he (field-in-set 2 (omega arith) (rw-held m g 2 e he) f) a₃))
+        (field-left s′ e p i f)
+
+    -- what stands past the three sets, the AppSels among it, is left
+    pub apply-past-sets : (k : ℕ) → 768 ≤ k → getD (applyBank m s lanes b₀) k 0 ≡ getD b₀ k 0
+    apply-past-sets k h =
+        apply-keeps (Sized λ b. getD b k 0 ≡ getD b₀ k 0)
+        (λ e p i b he f c (z, q). (
+          copy-size e p i b he f c z,
+          put-elsewhere m g b z 2 e p i _ f (field-lt m b₀ s e p i) k (omega (arith, in-set m g f)) ∙ q,
+        ))
+        (size, refl)
+        .1
+
+    -- the same of the field's number
+    apply-number :
+        (s′ e p i : ℕ)
+        → Field m s′ e p i
+        → numberIn m (applyBank m s lanes b₀) s′ e p i
+        ≡ cond (eqb s′ 2 && (isRW m e && bankCopies m b₀ s lanes e i)) (numberIn m b₀ s e p i) (numberIn m b₀ s′ e p i)
+    unfolding numberIn
+    apply-number s′ e p i f =
+        ap (fromBits (signedOf (entry m e)) (widthOf (entry m e))) (apply-field s′ e p i f)
+        ∙ by-test₂ (λ n z. fromBits (signedOf (entry m e)) (widthOf (entry m e)) n ≡ z) (eqb s′ 2 && (isRW m e && bankCopies m b₀ s lanes e i))
+        _ _ _ _ (λ _. refl) (λ _. refl)
+
+-- the relation: each copy stores a number in the bank and in the table
+module _ (m : Map) (g : GoodMap m) (tail : List ℕ) (t : Table) (b₀ : Bank) (s lanes : ℕ) (hs : s < 2) where
+  -- a bank that holds a table with the AppSels of t
+  abbrev Related : Bank → Type 0
+  Related b = (t′ : Table) × Holds m tail b t′ × (t′ .apps ≡ t .apps)
+
+  copy-related : CopiesKeep m g s lanes b₀ Related
+  unfolding withNumber
+  copy-related e p i b he f c r =
+      let from : Field m s e p i = field-in-set s (omega arith) (rw-held m g s e he) f in
+      let same : putField m b 2 e p i (getField m b₀ s e p i) ≡ withNumber m b 2 e p i (numberIn m b₀ s e p i) = ap (putField m b 2 e p i) (sym (bits-of m g b₀ from)) in
+      rw same (stored (r .0) 2 e p i (numberIn m b₀ s e p i), put-holds m g tail b (r .0) (r .1) 2 e p i (numberIn m b₀ s e p i) f (number-fits m g b₀ from), r .2)
 
   pub apply-holds :
       Holds m tail b₀ t
       → Holds m tail (applyBank m s lanes b₀)
       (renumbered t λ s′ e p i. cond (eqb s′ 2 && (isRW m e && bankCopies m b₀ s lanes e i)) (numberIn m b₀ s e p i) (t .numbers s′ e p i))
-  unfolding applyBank
   apply-holds r =
-      holds-ext m tail _ (upTo (2048 * m .rwCount + 1)) _ (loop-inv (m .rwCount) (λ e. loop (partsOf (entry m e)) (lanesOf e)) (λ e b′. Holds m tail b′ (upTo (2048 * e + 1))) b₀
-      (holds-ext m tail b₀ t (upTo 1) r none refl)
-      (λ e b′ l r′. holds-ext m tail _ (upTo (2048 * e + 8 * partsOf (entry m e) + 1)) (upTo (2048 * suc e + 1)) (part-loop e b′ l r′) (past e l) refl))
-      all refl
-    where
-      none : (s′ e p i : ℕ) → Field m s′ e p i → t .numbers s′ e p i ≡ upTo 1 .numbers s′ e p i
-      none s′ e p i f = let l : 1 ≤ i = f .low in rw (le-ltb (2048 * e + 8 * p + i) 1 (omega arith), and-false (isRW m e), and-false (eqb s′ 2))
-
-      all : (s′ e p i : ℕ) → Field m s′ e p i
-          → upTo (2048 * m .rwCount + 1) .numbers s′ e p i
-          ≡ cond (eqb s′ 2 && (isRW m e && bankCopies m b₀ s lanes e i)) (numberIn m b₀ s e p i) (t .numbers s′ e p i)
-      all s′ e p i f = go (decLt e (m .rwCount))
-        where
-          go : Dec (e < m .rwCount)
-              → upTo (2048 * m .rwCount + 1) .numbers s′ e p i
-              ≡ cond (eqb s′ 2 && (isRW m e && bankCopies m b₀ s lanes e i)) (numberIn m b₀ s e p i) (t .numbers s′ e p i)
-          go (yes l) =
-              let h : p < 256 = part-small f in
-              let u : i ≤ 8 = f .top in
-              rw (lt-ltb (2048 * e + 8 * p + i) (2048 * m .rwCount + 1) (omega arith))
-          go (no l) = rw (le-ltb e (m .rwCount) (omega arith))
+      let (t′, r′, q) = apply-keeps m g s lanes b₀ Related copy-related (t, r, refl) in
+      holds-ext m tail _ t′ _ r′
+      (λ s′ e p i f.
+      sym (r′ .fields s′ e p i f)
+      ∙ apply-number m g s lanes b₀ (r .size) s′ e p i f
+      ∙ ap (cond (eqb s′ 2 && (isRW m e && bankCopies m b₀ s lanes e i)) (numberIn m b₀ s e p i)) (r .fields s′ e p i f))
+      q

@@ -1,25 +1,25 @@
 -- Each of the seven calls, where no check refuses it, keeps the relation of bank and table and gives equal answers.
 use mathlib.Core.Path.{_≡_, refl, sym, ap, _∙_}
 use mathlib.Core.Logic.{_⊎_, inl, inr}
-use mathlib.Core.Bool.{Bool, true, false, _&&_, not, cond}
+use mathlib.Core.Bool.{_&&_, not, cond}
 use mathlib.Core.List.{List}
-use Prim.Native.Nat.{ℕ, _+_, _≤_, _<_}
+use Prim.Native.Nat.{ℕ, _+_, _<_}
 use native.Mathlib.Omega.{arith}
 use lib.IntN.{ℤ, pos}
-use lib.ListN.{length, getD}
-use lib.Dec.{T, ltb, leb, eqb, ltb→lt, leb→le, eqb→eq, nltb→le}
+use lib.ListN.{getD}
+use lib.Dec.{T, ltb, eqb, ltb→lt, eqb→eq}
 use Rattle.rules.specs.Words.{Call, select, write, read, byteWrite, byteRead, publish, apply, Answer, number}
 use Rattle.rules.specs.Load.{Map}
-use Rattle.rules.specs.Place.{entry, partsOf, widthOf, isSet, isStaged, isRW, isLane, hasField, heldBy, holds, lengthOf}
-use Rattle.rules.specs.Accept.{accepts, toBits}
+use Rattle.rules.specs.Place.{entry, widthOf, isSet, isRW, holds, lengthOf}
+use Rattle.rules.specs.Accept.{toBits}
 use Rattle.rules.specs.Layout.{setStart}
 use Rattle.rules.specs.Refuse.{firstOf, exists, misdirected, unaccepted}
-use Rattle.rules.specs.Bank.{Bank, numberIn, bankCopies, bankPlan, applyBank, bankDoes}
-use Rattle.rules.specs.Table.{Table, renumbered, tableCopies, tablePlan, changes, tableDoes}
-use Rattle.rules.proofs.Tests.{and₂, and₃, either, is-true, is-false, not-or, not-not, not-and, and-no}
-use Rattle.rules.proofs.Rows.{accepts-fits}
-use Rattle.rules.proofs.Good.{GoodMap, rw-held}
-use Rattle.rules.proofs.Places.{Field, field-of, field-holds, staged-set, active-held, read-held}
+use Rattle.rules.specs.Bank.{Bank, numberIn, bankCopies, bankPlan, bankDoes}
+use Rattle.rules.specs.Table.{Table, tablePlan, changes, tableDoes}
+use Rattle.rules.proofs.Tests.{and₂, either, is-true, is-false, and-no}
+use Rattle.rules.proofs.Good.{GoodMap}
+use Rattle.rules.proofs.Places.{Field, field-holds}
+use Rattle.rules.proofs.Allowed.{select-allowed, write-field, write-fits, read-field, publish-field, publish-fits, apply-staged}
 use Rattle.rules.proofs.Bytes.{byte-ext, byte-of-bank}
 use Rattle.rules.proofs.Gaps.{field-bits}
 use Rattle.rules.proofs.Holds.{Holds, holds-ext, bits-of, put-holds, select-holds, byte-holds}
@@ -34,29 +34,18 @@ pub record Same (m : Map) (tail : List ℕ) (x : Answer × Bank) (y : Answer × 
 
 module _ (m : Map) (g : GoodMap m) (tail : List ℕ) (b : Bank) (t : Table) (r : Holds m tail b t) where
   does-select : (s i a : ℕ) → Judged m (select s i a) → Same m tail (bankDoes m (select s i a) b) (tableDoes m (select s i a) t)
-  unfolding bankDoes tableDoes exists misdirected unaccepted
+  unfolding bankDoes tableDoes
   does-select s i a j =
-      let (h₁, h₂, h₃) = and₃ (isSet s) (leb 1 i) (leb i 8) (j .there) in
-      let ha : a ≤ m .count = nltb→le _ _ (j .fine) in
-      record {
-        answer = refl;
-        after = select-holds m g tail b t r s i a (staged-set s h₁ (j .may)) (leb→le _ _ h₂) (leb→le _ _ h₃) (omega (arith, g .count));
-      }
+      let (hs, hi, hj, ha) = select-allowed m j in
+      record { answer = refl; after = select-holds m g tail b t r s i a hs hi hj (omega (arith, g .count)) }
 
   does-write : (s e p i : ℕ) (v : ℤ) → Judged m (write s e p i v) → Same m tail (bankDoes m (write s e p i v) b) (tableDoes m (write s e p i v) t)
-  unfolding bankDoes tableDoes exists misdirected unaccepted
-  does-write s e p i v j =
-      let (h₁, h₂) = and₂ (isSet s) (hasField m e p i) (j .there) in
-      let (h₃, h₄) = not-or (eqb s 2) (not (isRW m e)) (j .may) in
-      let f : Field m s e p i = field-of m s e p i (ltb→lt _ _ h₁) (rw-held m g s e (ltb→lt _ _ (not-not (isRW m e) h₄))) h₂ in
-      record { answer = refl; after = put-holds m g tail b t r s e p i v f (accepts-fits (entry m e) v (not-not (accepts (entry m e) v) (j .fine))) }
+  unfolding bankDoes tableDoes
+  does-write s e p i v j = record { answer = refl; after = put-holds m g tail b t r s e p i v (write-field m g j) (write-fits m j) }
 
   does-read : (s e p i : ℕ) → Judged m (read s e p i) → Same m tail (bankDoes m (read s e p i) b) (tableDoes m (read s e p i) t)
-  unfolding bankDoes tableDoes exists misdirected unaccepted
-  does-read s e p i j =
-      let (h₁, h₂) = and₂ (isSet s) (hasField m e p i) (j .there) in
-      let f : Field m s e p i = field-of m s e p i (ltb→lt _ _ h₁) (read-held m g s e p i h₁ h₂ (j .may)) h₂ in
-      record { answer = ap number (r .fields s e p i f); after = r }
+  unfolding bankDoes tableDoes
+  does-read s e p i j = record { answer = ap number (r .fields s e p i (read-field m g j)); after = r }
 
   does-byteWrite : (s k v : ℕ) → Judged m (byteWrite s k v) → Same m tail (bankDoes m (byteWrite s k v) b) (tableDoes m (byteWrite s k v) t)
   unfolding bankDoes tableDoes exists misdirected unaccepted
@@ -78,10 +67,8 @@ module _ (m : Map) (g : GoodMap m) (tail : List ℕ) (b : Bank) (t : Table) (r :
       }
 
   does-publish : (e p i : ℕ) (v : ℤ) → Judged m (publish e p i v) → Same m tail (bankDoes m (publish e p i v) b) (tableDoes m (publish e p i v) t)
-  unfolding bankDoes tableDoes exists misdirected unaccepted
-  does-publish e p i v j =
-      let f : Field m 2 e p i = field-of m 2 e p i (omega arith) (active-held m e p i (j .there)) (j .there) in
-      record { answer = refl; after = put-holds m g tail b t r 2 e p i v f (accepts-fits (entry m e) v (not-not (accepts (entry m e) v) (j .fine))) }
+  unfolding bankDoes tableDoes
+  does-publish e p i v j = record { answer = refl; after = put-holds m g tail b t r 2 e p i v (publish-field m j) (publish-fits m j) }
 
   -- the table's numbers after apply, from the bank's
   module _ (s lanes : ℕ) (hs : s < 2) where
@@ -106,9 +93,9 @@ module _ (m : Map) (g : GoodMap m) (tail : List ℕ) (b : Bank) (t : Table) (r :
         go (inr q) h = rw (is-false (eqb s′ 2) q)
 
   does-apply : (s lanes : ℕ) → Judged m (apply s lanes) → Same m tail (bankDoes m (apply s lanes) b) (tableDoes m (apply s lanes) t)
-  unfolding bankDoes tableDoes exists misdirected unaccepted
+  unfolding bankDoes tableDoes
   does-apply s lanes j =
-      let hs : s < 2 = staged-set s (j .there) (j .may) in
+      let hs : s < 2 = apply-staged m j in
       record { answer = refl; after = holds-ext m tail _ _ _ (apply-holds m g tail t b s lanes hs r) (applied-same s lanes hs) refl }
 
   pub does : (c : Call) → Judged m c → Same m tail (bankDoes m c b) (tableDoes m c t)
@@ -122,11 +109,11 @@ module _ (m : Map) (g : GoodMap m) (tail : List ℕ) (b : Bank) (t : Table) (r :
 
   -- 13 and 14
   pub plans : (c : Call) → Judged m c → firstOf (bankPlan m c b) ≡ firstOf (tablePlan m c t)
-  unfolding bankPlan tablePlan exists misdirected
+  unfolding bankPlan tablePlan
   plans (select s i a) j = refl
   plans (write s e p i v) j = refl
   plans (read s e p i) j = refl
   plans (byteWrite s k v) j = refl
   plans (byteRead s k) j = refl
   plans (publish e p i v) j = refl
-  plans (apply s lanes) j = plan-same m g tail b t r s lanes (staged-set s (j .there) (j .may))
+  plans (apply s lanes) j = plan-same m g tail b t r s lanes (apply-staged m j)

@@ -5,17 +5,16 @@ use Prim.Native.Nat.{ℕ, zero, suc, _+_, _-_, _*_, _/_, _%_, _≤_, _<_}
 use native.Mathlib.Nat.{div-add-mod', div-lt-iff-lt-mul, mod-lt}
 use native.Mathlib.Omega.{arith}
 use native.Mathlib.Decide.{decLt}
-use lib.Dec.{T, ltb, leb, eqb, ltb→lt, leb→le, lt→ltb, le→leb}
+use lib.Dec.{T, ltb, leb, ltb→lt, leb→le, lt→ltb, le→leb}
 use Rattle.rules.specs.Numbers.{any}
 use Rattle.rules.specs.Words.{Entry}
 use Rattle.rules.specs.Load.{Map}
-use Rattle.rules.specs.Place.{entry, partsOf, widthOf, heldBy, fieldByte, fieldBit, covers}
-use borrow.Author.Tests.{eq-eqb}
-use Rattle.rules.proofs.Tests.{and₂, both-true, from-true}
+use Rattle.rules.specs.Place.{entry, partsOf, widthOf, heldBy, fieldByte, covers}
+use Rattle.rules.proofs.Tests.{and₂, both-true}
 use Rattle.rules.proofs.Any.{any-here, any-some}
 use Rattle.rules.proofs.Lanes.{Width, width-pos, LaneOf, lane-of}
 use Rattle.rules.proofs.Good.{GoodMap, entry-good, entries-apart}
-use Rattle.rules.proofs.Places.{Field, in-parts}
+use Rattle.rules.proofs.Places.{Field, covers-bit, in-parts}
 
 -- byte k lies in an entry's parts
 abbrev inParts : Entry → ℕ → Bool
@@ -91,5 +90,5 @@ module _ (m : Map) (g : GoodMap m) where
           partAt,
           l .i,
           record { set = hs; ent = h .ent; part = part-lt; low = l .low; top = l .top },
-          both-true (eqb (fieldByte (entry m e) partAt (l .i)) k) _ (from-true (eq-eqb _ _ here)) (both-true (leb (fieldBit (entry m e) (l .i)) q) _ (le→leb _ _ (l .from)) (lt→ltb _ _ (l .to))),
+          covers-bit (entry m e) partAt (l .i) k q here (l .from) (l .to),
         )

@@ -11,7 +11,6 @@ use lib.ListN.{length, getD, set, length-set, drop}
 use lib.Dec.{T, eqb, eqb→eq, T-not}
 use lib.Seq.{getD-set-same, getD-set-other, drop-set-lt}
 use borrow.Author.Tests.{eq-eqb}
-use Rattle.rules.specs.Numbers.{cut}
 use Rattle.rules.specs.Load.{Map}
 use Rattle.rules.specs.Place.{entry, widthOf, signedOf, holds, fieldByte, fieldBit}
 use Rattle.rules.specs.Accept.{toBits, fromBits}
@@ -58,7 +57,7 @@ holds-ext m tail b t t′ r h a =
 ne₂ : (a a′ b b′ : ℕ) → T (not (eqb a a′ && eqb b b′)) → a ≡ a′ → b ≡ b′ → ⊥
 ne₂ a a′ b b′ h e f = rw (eq-eqb a a′ e, eq-eqb b b′ f) at h
 
-field-lt : (m : Map) (b : Bank) (s e p i : ℕ) → getField m b s e p i < 2 ^ widthOf (entry m e)
+pub field-lt : (m : Map) (b : Bank) (s e p i : ℕ) → getField m b s e p i < 2 ^ widthOf (entry m e)
 unfolding getField
 field-lt m b s e p i = cut-lt _ _ _
 

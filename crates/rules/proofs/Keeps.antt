@@ -1,28 +1,26 @@
 -- What a call leaves of a bank: its length and every byte past its size; and all of it where the call is refused.
 use mathlib.Core.Path.{_≡_, refl, _∙_}
-use mathlib.Core.Logic.{inr}
 use mathlib.Core.List.{List, [], _++_}
-use Prim.Native.Nat.{ℕ, zero, suc, _+_, _≤_, _<_}
+use Prim.Native.Nat.{ℕ, _+_, _≤_, _<_}
 use native.Mathlib.Omega.{arith}
-use native.Mathlib.Decide.{decLt}
 use lib.ListN.{length, set, drop, replicate, length-append, length-drop, length-set, length-replicate}
+use lib.Dec.{ltb, ltb→lt}
 use lib.Seq.{drop-set-lt, drop-at}
 use Rattle.rules.specs.Words.{Refusal, rejected, Call, select, write, read, byteWrite, byteRead, publish, apply, refused}
 use Rattle.rules.specs.Load.{loadOf, Map, mapOf}
-use Rattle.rules.specs.Place.{entry, partsOf, heldBy}
+use Rattle.rules.specs.Place.{isSet, lengthOf}
 use Rattle.rules.specs.Layout.{bankSize, setStart, appSelAt}
-use Rattle.rules.specs.Refuse.{Verdict, passes, refuses, decide, misdirected, judge, bankOrder}
-use Rattle.rules.specs.Bank.{Bank, putField, withNumber, bankCopies, bankPlan, loop, copyField, applyBank, bankDoes, bankStep, freshBank, freshened, freshStep}
-use Rattle.rules.specs.Conditions.{Exists, Misdirected}
+use Rattle.rules.specs.Refuse.{Verdict, passes, refuses, decide, exists, judge, bankOrder}
+use Rattle.rules.specs.Bank.{Bank, putField, withNumber, bankPlan, applyBank, bankDoes, bankStep, freshBank, freshened, freshStep}
 use Rattle.rules.specs.Demands.{Keeps}
-use Rattle.rules.proofs.Tests.{by-test}
-use Rattle.rules.proofs.Good.{GoodMap, rw-held}
+use Rattle.rules.proofs.Tests.{and₂}
+use Rattle.rules.proofs.Good.{GoodMap}
 use Rattle.rules.proofs.Walks.{map-good}
-use Rattle.rules.proofs.Places.{Field, field-of, in-set}
-use Rattle.rules.proofs.Facts.{not-says}
+use Rattle.rules.proofs.Places.{Field, in-set}
+use Rattle.rules.proofs.Applied.{apply-keeps}
+use Rattle.rules.proofs.Allowed.{select-allowed, write-field, publish-field}
 use Rattle.rules.proofs.Verdicts.{first-append, Judged, judge-passes}
 use Rattle.rules.proofs.Orders.{bank-order-passes}
-use Rattle.rules.proofs.OrderRules.{has-field-says, exists-says, misdirected-says}
 use Rattle.rules.proofs.Refused.{does-answers, accepted-loads}
 
 -- a bank as it was in its length and past its size
@@ -39,40 +37,26 @@ kept-then h k = record { size = k .size ∙ h .size; beyond = k .beyond ∙ h .b
 kept-set : (b : Bank) (at v : ℕ) → at < bankSize → Kept b (set b at v)
 kept-set b at v h = record { size = length-set b at v; beyond = drop-set-lt bankSize b at v h }
 
-kept-loop : (n : ℕ) (f : ℕ → Bank → Bank) → ((k : ℕ) → k < n → (b : Bank) → Kept b (f k b)) → (b : Bank) → Kept b (loop n f b)
-unfolding loop
-kept-loop zero f h b = kept-self b
-kept-loop (suc n) f h b = kept-then (kept-loop n f (λ k l. h k (omega arith)) b) (h n (omega arith) (loop n f b))
-
 module _ (m : Map) (g : GoodMap m) where
   kept-put : (b : Bank) (s e p i v : ℕ) → Field m s e p i → Kept b (putField m b s e p i v)
   unfolding putField
   kept-put b s e p i v f = kept-set b _ _ (omega (arith, in-set m g f, f .set))
 
   kept-apply : (s lanes : ℕ) (b : Bank) → Kept b (applyBank m s lanes b)
-  unfolding applyBank copyField
-  kept-apply s lanes b =
-      kept-loop (m .rwCount) _ (λ e he. kept-loop (partsOf (entry m e)) _ λ p hp. kept-loop 8 _ λ j hj c.
-      by-test (Kept c) (bankCopies m b s lanes e (suc j)) _ c
-      (λ _. kept-put c 2 e p (suc j) _ (record { set = omega arith; ent = rw-held m g 2 e he; part = hp; low = omega arith; top = omega arith }))
-      (λ _. kept-self c))
-      b
+  kept-apply s lanes b = apply-keeps m g s lanes b (Kept b) (λ e p i c he f _ k. kept-then k (kept-put c 2 e p i _ f)) (kept-self b)
 
   -- an accepted call
-  does-keeps : (c : Call) (b : Bank) → Exists m c → ¬ (Misdirected m c) → Kept b (bankDoes m c b .1)
-  unfolding bankDoes withNumber heldBy
-  does-keeps (select s i a) b x n = kept-set b (appSelAt s i) a (omega (arith, x .1))
-  does-keeps (write s e p i v) b x n =
-      kept-put b s e p i _ (field-of m s e p i (x .0) (held (decLt e (m .rwCount))) (has-field-says m e p i .1 (x .1)))
-    where
-      held : Dec (e < m .rwCount) → e < heldBy m s
-      held (yes l) = rw-held m g s e l
-      held (no l) = absurd (n (inr (omega arith)))
-  does-keeps (read s e p i) b x n = kept-self b
-  does-keeps (byteWrite s k v) b x n = kept-set b (setStart s + k) _ (omega (arith, g .lengths s))
-  does-keeps (byteRead s k) b x n = kept-self b
-  does-keeps (publish e p i v) b x n = kept-put b 2 e p i _ (field-of m 2 e p i (omega arith) (x .0) (has-field-says m e p i .1 x))
-  does-keeps (apply s lanes) b x n = kept-apply s lanes b
+  does-keeps : (c : Call) (b : Bank) → Judged m c → Kept b (bankDoes m c b .1)
+  unfolding bankDoes withNumber exists
+  does-keeps (select s i a) b j = let (hs, hi, hj, ha) = select-allowed m j in kept-set b (appSelAt s i) a (omega arith)
+  does-keeps (write s e p i v) b j = kept-put b s e p i _ (write-field m g j)
+  does-keeps (read s e p i) b j = kept-self b
+  does-keeps (byteWrite s k v) b j =
+      let (h₁, h₂) = and₂ (isSet s) (ltb k (lengthOf m s)) (j .there) in
+      kept-set b (setStart s + k) _ (omega (arith, ltb→lt s 3 h₁, ltb→lt k (lengthOf m s) h₂, g .lengths s))
+  does-keeps (byteRead s k) b j = kept-self b
+  does-keeps (publish e p i v) b j = kept-put b 2 e p i _ (publish-field m j)
+  does-keeps (apply s lanes) b j = kept-apply s lanes b
 
 module _ (count : ℕ) (first last : List ℕ) (b : Bank) where
   pub call-keeps : (c : Call) → Keeps b (bankStep count first last c b .1) ((x : Refusal) × (bankStep count first last c b .0 ≡ refused x))
@@ -88,8 +72,7 @@ module _ (count : ℕ) (first last : List ℕ) (b : Bank) where
       go passes q =
           let (a, z, r) = bank-order-passes count first last (length b) _ q in
           let j : Judged m c = judge-passes m c (first-append (judge m c) (bankPlan m c b) r .0) in
-          let n = not-says (misdirected m c) (misdirected-says m c) .0 (j .may) in
-          let k = does-keeps m (map-good count first last a) c b (exists-says m c .0 (j .there)) n in
+          let k = does-keeps m (map-good count first last a) c b j in
           record { size = k .size; beyond = k .beyond; whole = λ y. absurd (does-answers m c b (y .0) (y .1)) }
 
   -- a bank of zeros and what stands past them

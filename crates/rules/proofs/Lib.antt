@@ -33,6 +33,7 @@ pub mod Any
 pub mod Places
 pub mod Cover
 pub mod Put
+pub mod Allowed
 pub mod Bytes
 pub mod Owners
 pub mod OwnerAt
@@ -52,5 +53,8 @@ pub mod Applied
 pub mod Calls
 pub mod Lists
 pub mod Fresh
+pub mod Footprint
+pub mod WritesOnly
+pub mod ReadsOnly
 pub mod Settings
 pub mod Example

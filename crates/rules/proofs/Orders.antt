@@ -1,7 +1,7 @@
 -- An order of checks that passes: each of its checks passes, so the load accepts the strings and the bank has its size.
 use mathlib.Core.Path.{_≡_, refl, sym, _∙_}
 use mathlib.Core.Bool.{Bool, true, false, cond}
-use mathlib.Core.List.{List, _∷_}
+use mathlib.Core.List.{List, [], _∷_}
 use Prim.Native.Nat.{ℕ, _≤_}
 use lib.Dec.{ltb}
 use native.Mathlib.Omega.{arith}
@@ -11,7 +11,7 @@ use Rattle.rules.specs.Load.{sized, stringsOf, loadOf}
 use Rattle.rules.specs.Refuse.{Verdict, passes, refuses, firstOf, check9, check8, refusalOf, check1to7, orderOf, bankOrder}
 use Rattle.rules.specs.Layout.{bankSize}
 use Rattle.rules.specs.Demands.{Accepted}
-use Rattle.rules.proofs.Verdicts.{refuse-if-passes, first-passes, order-open, bank-order-open}
+use Rattle.rules.proofs.Verdicts.{refuse-if-passes, first-passes, first-same, order-open, bank-order-open}
 use Rattle.rules.proofs.Walks.{check9-passes, check1to7-passes}
 use Rattle.rules.proofs.Steps.{order-9, order-1to7, bank-order-1to7}
 use Rattle.rules.proofs.Loads.{load-strings}
@@ -46,6 +46,16 @@ module _ (count : ℕ) (first last : List ℕ) where
       let r = first-passes (check1to7 count first last) rest (q .1) in
       let small = refuse-if-passes (ltb size bankSize) _ (q .0) in
       (checks-accepted (p .0) (r .0), omega (arith, ltb-false), r .1)
+
+  -- what follows 1 to 7 counts only where they and 9 and 8 pass
+  pub bank-order-same :
+      (size : ℕ) (rest rest′ : List Verdict)
+      → (Accepted count first last → bankSize ≤ size → firstOf rest ≡ firstOf rest′)
+      → bankOrder count first last size rest ≡ bankOrder count first last size rest′
+  unfolding bankOrder
+  bank-order-same size rest rest′ h =
+      first-same (check9 count first last ∷ check8 size ∷ check1to7 count first last ∷ []) rest rest′
+      (λ p. let (a, z, r) = bank-order-passes size [] p in h a z)
 
   -- the order of a call without a bank, from what the load says
   pub order-refused : (r : Refusal) → loadOf count first last ≡ rejected r → (rest : List Verdict) → orderOf count first last rest ≡ refuses r

@@ -5,15 +5,12 @@ use native.Mathlib.Nat.{mul-assoc, div-lt-iff-lt-mul, div-mul-le-self, lt-div-mu
 use native.Mathlib.Omega.{arith}
 use native.Mathlib.Decide.{decLt}
 use lib.Arith.{digits-lt}
-use lib.Dec.{leb, eqb, lt→ltb, le→leb}
-use borrow.Author.Tests.{eq-eqb}
 use Rattle.rules.specs.Words.{ownedBy, gap}
 use Rattle.rules.specs.Load.{Map}
-use Rattle.rules.specs.Place.{entry, partsOf, widthOf, heldBy, laneByte, laneBit, fieldByte, fieldBit, ownerOf}
-use Rattle.rules.proofs.Tests.{both-true, from-true}
+use Rattle.rules.specs.Place.{entry, partsOf, widthOf, heldBy, laneByte, laneBit, fieldByte, ownerOf}
 use Rattle.rules.proofs.Lanes.{Width, width-pos, full, lane-at-byte, lane-at-bit}
 use Rattle.rules.proofs.Good.{GoodMap, entries-apart}
-use Rattle.rules.proofs.Places.{Field, in-parts, in-entry}
+use Rattle.rules.proofs.Places.{Field, covers-bit, in-parts, in-entry}
 use Rattle.rules.proofs.Cover.{In, in-width, placed, byte-lt, part-lt, partAt, byteInPart}
 use Rattle.rules.proofs.Owners.{Covers, covers-says, covers-owner, owner-none}
 
@@ -60,8 +57,7 @@ module _ (m : Map) (g : GoodMap m) (s k q : ℕ) (hs : s < 3) (hq : q < 8) where
       let here : fieldByte (entry m e) (partAt m g h) i ≡ k = omega (arith, placed m g h, lane-byte-is w n q hw ln hq) in
       covers-owner m g s k q hs e (partAt m g h) i
       (record { set = hs; ent = h .ent; part = part-lt m g h; low = omega arith; top = omega (arith, lane-top w n q hw ln hq) })
-      (both-true (eqb (fieldByte (entry m e) (partAt m g h) i) k) _ (from-true (eq-eqb _ _ here))
-      (both-true (leb (fieldBit (entry m e) i) q) _ (le→leb _ _ (lane-from w n q hw ln hq)) (lt→ltb _ _ (lane-to w n q hw ln hq))))
+      (covers-bit (entry m e) (partAt m g h) i k q here (lane-from w n q hw ln hq) (lane-to w n q hw ln hq))
 
   -- the byte lies in the entry's space, past its parts: a gap
   pub owner-surplus :

@@ -1,27 +1,28 @@
 -- DEMAND 2: the place call and the owner call, on accepted strings, agree both ways.
 use mathlib.Core.Path.{_≡_, refl, sym, ap, _∙_}
 use mathlib.Core.Logic.{_⊎_, inl, inr}
-use mathlib.Core.Bool.{_&&_, _||_, not, cond}
+use mathlib.Core.Bool.{_&&_, not, cond}
 use mathlib.Core.List.{List, [], _∷_}
-use Prim.Native.Nat.{ℕ, zero, suc, _+_, _-_, _<_}
+use Prim.Native.Nat.{ℕ, zero, suc, _+_, _<_}
 use native.Mathlib.Omega.{arith}
 use lib.ListN.{length, getD, take}
-use lib.Dec.{T, ltb, leb, eqb, ltb→lt, eqb→eq, lt→ltb, le→leb, nltb→le}
-use borrow.Author.Tests.{eq-eqb, lt-ltb}
+use lib.Dec.{T, ltb, leb, ltb→lt, lt→ltb, le→leb}
+use borrow.Author.Tests.{lt-ltb}
 use Rattle.rules.specs.Words.{plain, Entry, accepted, read, placedAt, ownedBy, gap, notOwned}
-use Rattle.rules.specs.Load.{Map, mapOf, loadOf, total}
-use Rattle.rules.specs.Place.{nothing, entry, partsOf, widthOf, isSet, isStaged, isRW, isLane, hasField, heldBy, holds, lengthOf, fieldByte, fieldBit, covers, ownerOf}
+use Rattle.rules.specs.Load.{Map, mapOf, total}
+use Rattle.rules.specs.Place.{nothing, entry, partsOf, widthOf, isSet, isStaged, isRW, heldBy, holds, lengthOf, fieldByte, fieldBit, covers, ownerOf}
 use Rattle.rules.specs.Refuse.{Verdict, passes, refuses, refuseIf, firstOf, exists, misdirected, unaccepted, judge}
 use Rattle.rules.specs.Beside.{placed, placeOf, owned, isBit, ownerCall}
 use Rattle.rules.specs.Demands.{Accepted, PlaceCovers, OwnerAndPlace}
-use Rattle.rules.proofs.Tests.{and₂, either, is-true, is-false, both-true, or-left, or-right, or-cases, from-true}
+use Rattle.rules.proofs.Tests.{and₂, either, is-true, is-false, both-true}
 use Rattle.rules.proofs.Lanes.{width-pos}
-use Rattle.rules.proofs.Good.{Good, GoodMap, held-lt, rw-held}
+use Rattle.rules.proofs.Good.{Good, GoodMap, held-lt}
 use Rattle.rules.proofs.Walks.{map-good, load-counts, check9-passes, check1to7-passes}
-use Rattle.rules.proofs.Places.{Field, holds-field, field-of, read-held, field-width, in-entry, in-byte}
+use Rattle.rules.proofs.Places.{Field, holds-field, covers-bit, field-width, in-entry, in-byte}
+use Rattle.rules.proofs.Allowed.{read-field}
 use Rattle.rules.proofs.Fills.{rw-fills, ro-fills}
 use Rattle.rules.proofs.EntryParts.{entry-own}
-use Rattle.rules.proofs.Verdicts.{Judged, judge-passes, judged-passes, order-open}
+use Rattle.rules.proofs.Verdicts.{judge-passes, judged-passes, order-open}
 use Rattle.rules.proofs.Owners.{Covers, covers-says, covers-same, owner-covers, covers-owner, owner-none}
 
 -- a field that a set holds is one that may be read, and the other way round
@@ -48,11 +49,7 @@ module _ (m : Map) (g : GoodMap m) where
       })
 
   reads-field : (s e p i : ℕ) → firstOf (judge m (read s e p i)) ≡ passes → Field m s e p i
-  unfolding exists misdirected unaccepted
-  reads-field s e p i q =
-      let j : Judged m (read s e p i) = judge-passes m (read s e p i) q in
-      let (h₁, h₂) = and₂ (isSet s) (hasField m e p i) (j .there) in
-      field-of m s e p i (ltb→lt _ _ h₁) (read-held m g s e p i h₁ h₂ (j .may)) h₂
+  reads-field s e p i q = read-field m g (judge-passes m (read s e p i) q)
 
 offset-at : (n : ℕ) (l : List Entry) → Good n l → (k : ℕ) → k < length l → getD l k nothing .offset ≡ n + total (take k l)
 unfolding total
@@ -128,8 +125,7 @@ module _ (count : ℕ) (first last : List ℕ) (ok : Accepted count first last) 
       }
 
   covers-true : {e p i k q : ℕ} → Covers m e p i k q → T (covers (entry m e) p i k q)
-  covers-true {e} {p} {i} {k} {q} c =
-      both-true (eqb (fieldByte (entry m e) p i) k) _ (from-true (eq-eqb _ _ (c .byte))) (both-true (leb (fieldBit (entry m e) i) q) _ (le→leb _ _ (c .low)) (lt→ltb _ _ (c .top)))
+  covers-true {e} {p} {i} {k} {q} c = covers-bit (entry m e) p i k q (c .byte) (c .low) (c .top)
 
   on-owner : (s e p i k q : ℕ) → On s e p i k q → ownerCall count first last s k q ≡ ownedBy e p i
   on-owner s e p i k q o = owner-in s k q (o .there) ∙ covers-owner m g s k q (o .field .set) e p i (o .field) (covers-true (o .covers))

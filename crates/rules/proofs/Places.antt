@@ -9,8 +9,9 @@ use lib.Arith.{digits-lt, digits-div}
 use lib.ListN.{length}
 use lib.Dec.{T, T-not, ltb, leb, eqb, ltb→lt, leb→le, lt→ltb, le→leb, nltb→le}
 use borrow.Author.Tests.{eq-eqb}
+use Rattle.rules.specs.Words.{Entry}
 use Rattle.rules.specs.Load.{Map}
-use Rattle.rules.specs.Place.{entry, partsOf, widthOf, isSet, isStaged, isRW, isLane, heldBy, hasField, holds, laneByte, fieldByte, fieldBit}
+use Rattle.rules.specs.Place.{entry, partsOf, widthOf, isSet, isStaged, isRW, isLane, heldBy, hasField, holds, laneByte, fieldByte, fieldBit, covers}
 use Rattle.rules.specs.Bank.{fieldAt}
 use Rattle.rules.proofs.Tests.{and₂, and₄, and₅, both-true, from-true, either, not-not, not-and}
 use Rattle.rules.proofs.Lanes.{Width, lane-byte-lt, lane-room}
@@ -65,6 +66,11 @@ read-held m g s e p i hs h n = go (either (isStaged s))
 -- the same field in another set that holds the entry
 pub field-in-set : {m : Map} {s e p i : ℕ} (s′ : ℕ) → s′ < 3 → e < heldBy m s′ → Field m s e p i → Field m s′ e p i
 field-in-set s′ hs he f = record { set = hs; ent = he; part = f .part; low = f .low; top = f .top }
+
+-- what the test `covers` asks: the bit's byte is the field's, and the bit one of the field's there
+pub covers-bit : (e : Entry) (p i k q : ℕ) → fieldByte e p i ≡ k → fieldBit e i ≤ q → q < fieldBit e i + widthOf e → T (covers e p i k q)
+covers-bit e p i k q here low top =
+    both-true (eqb (fieldByte e p i) k) _ (from-true (eq-eqb _ _ here)) (both-true (leb (fieldBit e i) q) _ (le→leb _ _ low) (lt→ltb _ _ top))
 
 module _ (m : Map) (g : GoodMap m) where
   pub field-width : {s e p i : ℕ} → Field m s e p i → Width (widthOf (entry m e))

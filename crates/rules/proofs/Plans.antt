@@ -17,7 +17,7 @@ use Rattle.rules.proofs.Good.{GoodMap, rw-held}
 use Rattle.rules.proofs.Places.{Field}
 use Rattle.rules.proofs.Holds.{Holds}
 
-lowest-same : (n : ℕ) (f h : ℕ → Bool) → ((i : ℕ) → 1 ≤ i → i ≤ 8 → f i ≡ h i) → atLowest n f ≡ atLowest n h
+pub lowest-same : (n : ℕ) (f h : ℕ → Bool) → ((i : ℕ) → 1 ≤ i → i ≤ 8 → f i ≡ h i) → atLowest n f ≡ atLowest n h
 unfolding atLowest
 lowest-same n f h q = rw (lowest-ext 8 1 f h (λ j l u. q j l (omega arith)))
 

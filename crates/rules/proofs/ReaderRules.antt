@@ -1,5 +1,5 @@
--- The reader against the rules of 01: the refusals that it gives, and where it gives the end.
-use mathlib.Core.Path.{_≡_, refl}
+-- The reader against the rules of 01: the refusals that it gives, where it gives the end, and where it moves.
+use mathlib.Core.Path.{_≡_, refl, ap}
 use mathlib.Core.Logic.{_↔_, Iff·and, Iff·trans}
 use mathlib.Core.Bool.{Bool, true, false, _&&_, not, cond}
 use mathlib.Core.List.{List, [], _∷_}
@@ -12,7 +12,7 @@ use Rattle.rules.specs.Parameter.{rowOf}
 use Rattle.rules.specs.Descriptor.{maskBytes, entryAt, overruns, refuse, lengthChecks}
 use Rattle.rules.specs.Load.{sized}
 use Rattle.rules.specs.Refuse.{Verdict, passes, refuses, refuseIf, firstOf}
-use Rattle.rules.specs.Reader.{standing, takenOf, takeOf}
+use Rattle.rules.specs.Reader.{standing, takenOf, takeOf, movedTo}
 use Rattle.rules.specs.Conditions.{First, ReaderSized, readerRules}
 use Rattle.rules.proofs.Facts.{lt-says, eq-says, or-says, and-says}
 use Rattle.rules.proofs.Firsts.{Says, none, also, first-says, refuse-says, refuse-not-says}
@@ -85,3 +85,25 @@ module _ (count : ℕ) (s : List ℕ) (position : ℕ) where
       go true false d = (λ h. (tt, tt), λ h. refl)
       go true true (decoded x) = (λ h. let o : _≡_ {A = ℕ} 0 1 = cc in absurd (omega arith), λ h. absurd (h .1))
       go true true (failed n) = (λ h. let o : _≡_ {A = ℕ} 0 1 = cc in absurd (omega arith), λ h. absurd (h .1))
+
+  -- an entry that is taken stands at the position
+  pub take-start : (start n : ℕ) → takeOf count s position ≡ taken start n → start ≡ position
+  unfolding takeOf lengthChecks refuse
+  take-start start n = go (sized count s []) more (overruns left e) short
+    where
+      go : (z m o b : Bool) → cond z (cond m (takenOf (refuse o 1 (refuse b 2 (decoded e)))) noMore) (notTaken (plain 9)) ≡ taken start n → start ≡ position
+      go false m o b h = let x : _≡_ {A = ℕ} 0 1 = cc in absurd (omega arith)
+      go true false o b h = let x : _≡_ {A = ℕ} 0 1 = cc in absurd (omega arith)
+      go true true true b h = let x : _≡_ {A = ℕ} 0 1 = cc in absurd (omega arith)
+      go true true false true h = let x : _≡_ {A = ℕ} 0 1 = cc in absurd (omega arith)
+      go true true false false h = cc
+
+  -- "and moves only past an entry"
+  pub moved-entry : (start n : ℕ) → takeOf count s position ≡ taken start n → movedTo (takeOf count s position) position ≡ position + n
+  moved-entry start n h = rw h (ap (λ (p : ℕ). p + n) (take-start start n h))
+
+  pub moved-end : takeOf count s position ≡ noMore → movedTo (takeOf count s position) position ≡ position
+  moved-end h = rw h refl
+
+  pub moved-refused : (x : Refusal) → takeOf count s position ≡ notTaken x → movedTo (takeOf count s position) position ≡ position
+  moved-refused x h = rw h refl

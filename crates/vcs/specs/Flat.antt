@@ -1,6 +1,7 @@
 -- What a flat answer has for each case of an answer: 01's number and values.
 use mathlib.Core.Bool.{cond}
 use lib.IntN.{pos}
+use Prim.Native.Nat.{ℕ}
 use Rattle.rules.specs.declared.Refusal.{Refusal}
 use Rattle.rules.specs.declared.Refusal.the-variants.{Plain as plain, AtEntry as atEntry, AtLane as atLane}
 use Rattle.rules.specs.declared.Answer.{Answer}
@@ -11,6 +12,8 @@ use Rattle.rules.specs.declared.Placed.{Placed}
 use Rattle.rules.specs.declared.Placed.the-variants.{At as placedAt, Refused as notPlaced}
 use Rattle.rules.specs.declared.Owned.{Owned}
 use Rattle.rules.specs.declared.Owned.the-variants.{Field as ownedBy, Gap as noOwner, Refused as notOwned}
+use Rattle.rules.specs.declared.Taken.{Taken}
+use Rattle.rules.specs.declared.Taken.the-variants.{Part as taken, End as noMore, Refused as notTaken}
 use Rattle.descriptor.specs.declared.Located.{Located}
 use Rattle.descriptor.specs.declared.Located.the-variants.{At as at, Refused as nowhere}
 use Rattle.vcs.specs.declared.Reason.{Reason}
@@ -19,6 +22,7 @@ use Rattle.vcs.specs.declared.FlatEntry.{FlatEntry}
 use Rattle.vcs.specs.declared.FlatPlaced.{FlatPlaced}
 use Rattle.vcs.specs.declared.FlatOwned.{FlatOwned}
 use Rattle.vcs.specs.declared.FlatAnswer.{FlatAnswer}
+use Rattle.vcs.specs.declared.FlatTaken.{FlatTaken}
 
 -- the number of a refusal and its extra
 abbrev pub reasonOf : Refusal → Reason
@@ -49,3 +53,9 @@ abbrev pub flatAnswer : Answer → FlatAnswer
 flatAnswer yes = record { refusal = 0; at = 0; number = pos 0 }
 flatAnswer (theNumber n) = record { refusal = 0; at = 0; number = n }
 flatAnswer (refused r) = record { refusal = reasonOf r .number; at = reasonOf r .at; number = pos 0 }
+
+-- with the position after the step
+abbrev pub flatTaken : Taken → ℕ → FlatTaken
+flatTaken (taken s l) p = record { refusal = 0; end = 0; start = s; length = l; position = p }
+flatTaken noMore p = record { refusal = 0; end = 1; start = 0; length = 0; position = p }
+flatTaken (notTaken r) p = record { refusal = reasonOf r .number; end = 0; start = 0; length = 0; position = p }

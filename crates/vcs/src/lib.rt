@@ -4,8 +4,9 @@ ghost use Rattle.rules.specs.Load.{loadOf};
 ghost use Rattle.rules.specs.declared.Call.{Call};
 ghost use Rattle.rules.specs.Bank.{freshStep, bankStep};
 ghost use Rattle.rules.specs.Beside.{placeOf, ownerCall, weightCall};
+ghost use Rattle.rules.specs.Reader.{takeOf, movedTo};
 ghost use Rattle.descriptor.specs.Locate.{locatedOf};
-ghost use Rattle.vcs.specs.Flat.{reasonOf, flatLoaded, flatEntry, flatPlaced, flatOwned, flatAnswer};
+ghost use Rattle.vcs.specs.Flat.{reasonOf, flatLoaded, flatEntry, flatPlaced, flatOwned, flatAnswer, flatTaken};
 use control_set::byte_read;
 use control_set::byte_write;
 use control_set::fresh;
@@ -19,11 +20,13 @@ use descriptor::load;
 use descriptor::locate;
 use placement::owner;
 use placement::place;
+use reader::take;
 use rules::Answer;
 use rules::Loaded;
 use rules::Owned;
 use rules::Placed;
 use rules::Refusal;
+use rules::Taken;
 
 // A refusal: its number, and the entry (1 to 7) or the lane (13, 14) that it names, else 0. Number 0: accepted.
 pub struct Reason {
@@ -79,6 +82,16 @@ pub struct FlatAnswer {
     pub refusal: usize,
     pub at: usize,
     pub number: i64,
+}
+
+// vcs_taken
+#[repr(C)]
+pub struct FlatTaken {
+    pub refusal: usize,
+    pub end: usize,
+    pub start: usize,
+    pub length: usize,
+    pub position: usize,
 }
 
 fn reason_of(r: Refusal) -> Reason
@@ -397,4 +410,39 @@ pub extern "C" fn vcs_weight(
     ensures { λ r. ⌜ r ≡ flatAnswer (weightCall count (now (rw .entry)) (now (ro .entry)) (now (bank .entry)) entry lane) ⌝ }
 {
     flat_answer(weight(count, rw, ro, bank, entry, lane))
+}
+
+// The reader's step at a position: the next entry's start and length, or the end (1), and the position after it.
+#[no_mangle]
+pub extern "C" fn vcs_take(count: usize, string: &[u8], position: usize) -> FlatTaken
+    ensures { λ r. ⌜ r ≡ flatTaken (takeOf count (now (string .entry)) position) (movedTo (takeOf count (now (string .entry)) position) position) ⌝ }
+{
+    let x = take(count, string, position);
+    let taken = x.taken;
+    match taken {
+        Taken::Part { start, length } => FlatTaken {
+            refusal: 0,
+            end: 0,
+            start,
+            length,
+            position: x.at,
+        },
+        Taken::End => FlatTaken {
+            refusal: 0,
+            end: 1,
+            start: 0,
+            length: 0,
+            position: x.at,
+        },
+        Taken::Refused(r) => {
+            let why = reason_of(r);
+            FlatTaken {
+                refusal: why.number,
+                end: 0,
+                start: 0,
+                length: 0,
+                position: x.at,
+            }
+        }
+    }
 }

@@ -5,6 +5,7 @@ pub mod entry;
 pub mod load;
 pub mod owner;
 pub mod place;
+pub mod take;
 
 use crate::case::Case;
 use crate::engine::Loaded;
@@ -13,13 +14,16 @@ use crate::report::Report;
 use crate::tally::Row;
 
 /// Every call, in the order of the table that is printed.
-pub const CALLS: [&Row; 14] = [
+pub const CALLS: [&Row; 17] = [
     &load::CALL,
     &entry::CALL,
     &place::CALL,
     &owner::CALL,
     &owner::FIELD,
     &owner::GAP,
+    &take::CALL,
+    &take::ENTRY,
+    &take::END,
     &bank::FRESH,
     &bank::SELECT,
     &bank::WRITE,
@@ -41,6 +45,7 @@ pub fn compare(report: &mut Report, case: &Case, random: &Random) {
             place::compare_one(report, case, &loaded, random);
             owner::compare_one(report, case, &loaded, random);
         }
+        take::compare(report, case, &loaded, random);
     }
 }
 
@@ -50,6 +55,7 @@ pub fn compare_all(report: &mut Report, case: &Case, known: &[(&str, Loaded)]) {
         entry::compare(report, case, &loaded);
         place::compare_all(report, case, &loaded);
         owner::compare_all(report, case, &loaded);
+        take::compare_all(report, case, &loaded);
     }
 }
 

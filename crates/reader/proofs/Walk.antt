@@ -1,0 +1,68 @@
+-- The reader as its functions' contracts state it (specs/Step.antt): it moves only past an entry; and on a string that the load accepts its steps
+-- from the beginning give the walk's entries, start and length of each in order, and then the end, however often it is asked.
+use mathlib.Core.Path.{_≡_, refl, ap}
+use mathlib.Core.List.{List, _∷_, _++_, map}
+use Prim.Native.Nat.{ℕ, zero, suc, _+_, _<_}
+use native.Mathlib.Nat.{zero-add, suc-add}
+use native.Mathlib.Omega.{arith}
+use lib.ListN.{length, getD, take, drop, replicate}
+use lib.Seq.{take-length, drop-length, drop-cons}
+use denote.Ref.{RefT, now}
+use Rattle.rules.specs.declared.Entry.{Entry}
+use Rattle.rules.specs.declared.Refusal.{Refusal}
+use Rattle.rules.specs.declared.Taken.{Taken}
+use Rattle.rules.specs.declared.Taken.the-variants.{Part as taken, End as noMore, Refused as notTaken}
+use Rattle.rules.specs.Load.{rwEntries, roEntries}
+use Rattle.rules.specs.Place.{nothing}
+use Rattle.rules.specs.Demands.{Accepted, lengths}
+use Rattle.rules.proofs.Demands.{demand2}
+use Rattle.rules.proofs.ReaderRules as ReaderRules
+use Rattle.rules.proofs.ReaderWalk.{Reads, rw-reads, ro-reads}
+use Rattle.reader.specs.declared.Reader.{Reader}
+use Rattle.reader.specs.Step.{readerOf, takenBy, movedBy, stepsOf}
+
+-- a reader over a string at a position
+abbrev over : RefT (List ℕ) → ℕ → Reader
+over s position = record { src = s; at = position }
+
+-- ---- movedBy
+module _ (count : ℕ) (r : Reader) where
+  pub moved-entry : (start n : ℕ) → takenBy count r ≡ taken start n → movedBy count r ≡ over (r .src) (r .at + n)
+  moved-entry start n h = ap (over (r .src)) (ReaderRules.moved-entry count (now (r .src)) (r .at) start n h)
+
+  pub moved-end : takenBy count r ≡ noMore → movedBy count r ≡ r
+  moved-end h = ap (over (r .src)) (ReaderRules.moved-end count (now (r .src)) (r .at) h)
+
+  pub moved-refused : (x : Refusal) → takenBy count r ≡ notTaken x → movedBy count r ≡ r
+  moved-refused x h = ap (over (r .src)) (ReaderRules.moved-refused count (now (r .src)) (r .at) x h)
+
+-- ---- stepsOf
+abbrev pub partOf : Entry → Taken
+partOf e = taken (e .start) (e .length)
+
+module _ (count : ℕ) (s : RefT (List ℕ)) (l : List Entry) (reads : Reads count (now s) l) (fills : lengths l ≡ length (now s)) (k : ℕ) where
+  steps-end : (n : ℕ) → stepsOf count n (over s (length (now s))) ≡ replicate n noMore
+  unfolding stepsOf
+  steps-end zero = refl
+  steps-end (suc n) = rw (reads .ends) (ap (λ t. noMore ∷ t) (steps-end n))
+
+  steps-from : (m n : ℕ) → n + m ≡ length l → stepsOf count (m + k) (over s (lengths (take n l))) ≡ map partOf (drop n l) ++ replicate k noMore
+  unfolding stepsOf
+  steps-from zero n h =
+      let e : n ≡ length l = omega arith in
+      rw (e, zero-add, take-length, drop-length, fills) (steps-end k)
+  steps-from (suc m) n h =
+      let lt : n < length l = omega arith in
+      rw (suc-add, reads .moves n lt, reads .takes n lt, drop-cons l n nothing lt) (ap (λ t. partOf (getD l n nothing) ∷ t) (steps-from m (suc n) (omega arith)))
+
+  steps-all : stepsOf count (length l + k) (over s 0) ≡ map partOf l ++ replicate k noMore
+  steps-all = steps-from (length l) 0 (omega arith)
+
+-- over the RW string, and over the RO string
+pub rw-steps : (count : ℕ) (s : RefT (List ℕ)) (ro : List ℕ) → Accepted count (now s) ro → (k : ℕ)
+    → stepsOf count (length (rwEntries count (now s)) + k) (readerOf s) ≡ map partOf (rwEntries count (now s)) ++ replicate k noMore
+rw-steps count s ro ok k = steps-all count s (rwEntries count (now s)) (rw-reads count (now s) ro ok) (demand2 count (now s) ro ok .rw-fills .ends) k
+
+pub ro-steps : (count : ℕ) (first : List ℕ) (s : RefT (List ℕ)) → Accepted count first (now s) → (k : ℕ)
+    → stepsOf count (length (roEntries count first (now s)) + k) (readerOf s) ≡ map partOf (roEntries count first (now s)) ++ replicate k noMore
+ro-steps count first s ok k = steps-all count s (roEntries count first (now s)) (ro-reads count first (now s) ok) (demand2 count first (now s) ok .ro-fills .ends) k

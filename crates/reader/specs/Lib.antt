@@ -1,0 +1,2 @@
+-- The reader's step in terms of the rules.
+pub mod Step
