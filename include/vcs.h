@@ -4,8 +4,9 @@
    A bank is lent likewise and overlaps no string; under 784 bytes it is refused with 8. No call changes a byte beyond 784,
    and a refused call changes none.
    Every number may have any value: what doesn't exist is refused. In an answer, `refusal` is 0 if the call is accepted,
-   otherwise document 01's number; `at` is then the entry that 1 to 7 name, else 0. All other members are 0 in a refused
-   answer, but for the reader's position. The library needs `memset` from the C library, nothing else. */
+   otherwise document 01's number; `at` is then the entry that 1 to 7 name, or the lane that 13 and 14 name, else 0. All
+   other members are 0 in a refused answer, but for the reader's position. The library needs `memset` from the C library,
+   nothing else. */
 #ifndef VCS_H
 #define VCS_H
 
@@ -72,6 +73,23 @@ typedef struct {
     size_t position;
 } vcs_taken;
 
+/* A call as data. Each kind reads its own arguments and ignores the other members:
+   0 select (set, lane, app), 1 write (set, entry, part, lane, value), 2 read (set, entry, part, lane),
+   3 byte write (set, offset, byte), 4 byte read (set, offset), 5 publish (entry, part, lane, value), 6 apply (set, lanes).
+   A kind above 6 doesn't exist: refused with 10, after 9, 8 and 1 to 7. */
+typedef struct {
+    size_t kind;
+    size_t set;
+    size_t entry;
+    size_t part;
+    size_t lane;
+    size_t offset;
+    size_t app;
+    int64_t value;
+    uint8_t byte;
+    uint8_t lanes;
+} vcs_call;
+
 /* The load: the check of both strings. Refusals 9, 1 to 7. */
 vcs_loaded vcs_load(size_t count, const uint8_t *rw, size_t rw_length, const uint8_t *ro, size_t ro_length);
 
@@ -114,6 +132,16 @@ vcs_answer vcs_byte_write(size_t count, const uint8_t *rw, size_t rw_length, con
 /* Byte read: the byte at an offset of set 0, 1 or 2, with its gaps 0. Refusals 9, 8, 1 to 7, 10. */
 vcs_answer vcs_byte_read(size_t count, const uint8_t *rw, size_t rw_length, const uint8_t *ro, size_t ro_length,
                          const uint8_t *bank, size_t bank_length, size_t set, size_t offset);
+
+/* Apply: for each chosen lane (bit i - 1 of `lanes` is lane i), copies each RW field whose entry's mask has the lane's
+   AppSel from staged set 0 or 1 to the active set; all or nothing. An empty mask changes nothing and is accepted.
+   Refusals 9, 8, 1 to 7, 10, 11, 13, 14. */
+vcs_answer vcs_apply(size_t count, const uint8_t *rw, size_t rw_length, const uint8_t *ro, size_t ro_length,
+                     uint8_t *bank, size_t bank_length, size_t set, uint8_t lanes);
+
+/* Perform: a call given as data; its answer and refusals are those of its kind. */
+vcs_answer vcs_perform(size_t count, const uint8_t *rw, size_t rw_length, const uint8_t *ro, size_t ro_length,
+                       uint8_t *bank, size_t bank_length, vcs_call call);
 
 /* Weight: the active number of a 12h field, in thousandths. Refusals 9, 8, 1 to 7, 10. */
 vcs_answer vcs_weight(size_t count, const uint8_t *rw, size_t rw_length, const uint8_t *ro, size_t ro_length,

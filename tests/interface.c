@@ -7,43 +7,53 @@
 
 #include "vcs.h"
 
-#define AT(type, member, place) \
-    _Static_assert(offsetof(type, member) == (place) * sizeof(size_t), #type "." #member " stands at number " #place); \
-    _Static_assert(sizeof(((type *)0)->member) == sizeof(size_t), #type "." #member " is a size_t")
+/* A member of a type, and at which byte it stands. */
+#define MEMBER(type, member, of, byte) \
+    _Static_assert(offsetof(type, member) == (byte), #type "." #member " stands at byte " #byte); \
+    _Static_assert(_Generic(((type *)0)->member, of: 1, default: 0), #type "." #member " has type " #of)
+
+/* A number: a size_t at its place among numbers of eight bytes. */
+#define AT(type, member, place) MEMBER(type, member, size_t, 8 * (place))
+
+/* An answer: how many numbers it has, and the first two, which every answer has. */
+#define ANSWER(type, numbers) \
+    _Static_assert(sizeof(type) == 8 * (numbers), #type " has " #numbers " numbers"); \
+    AT(type, refusal, 0); \
+    AT(type, at, 1)
 
 _Static_assert(sizeof(size_t) == 8, "size_t has 64 bits");
-_Static_assert(sizeof(vcs_loaded) == 6 * sizeof(size_t), "vcs_loaded has six numbers");
-AT(vcs_loaded, refusal, 0);
-AT(vcs_loaded, at, 1);
+ANSWER(vcs_loaded, 6);
 AT(vcs_loaded, rw_count, 2);
 AT(vcs_loaded, ro_count, 3);
 AT(vcs_loaded, staged_length, 4);
 AT(vcs_loaded, active_length, 5);
-_Static_assert(sizeof(vcs_located) == 6 * sizeof(size_t), "vcs_located has six numbers");
-AT(vcs_located, refusal, 0);
-AT(vcs_located, at, 1);
+ANSWER(vcs_located, 6);
 AT(vcs_located, string, 2);
 AT(vcs_located, start, 3);
 AT(vcs_located, length, 4);
 AT(vcs_located, offset, 5);
-_Static_assert(sizeof(vcs_placed) == 4 * sizeof(size_t), "vcs_placed has four numbers");
-AT(vcs_placed, refusal, 0);
-AT(vcs_placed, at, 1);
+ANSWER(vcs_placed, 4);
 AT(vcs_placed, byte, 2);
 AT(vcs_placed, bit, 3);
-_Static_assert(sizeof(vcs_owned) == 6 * sizeof(size_t), "vcs_owned has six numbers");
-AT(vcs_owned, refusal, 0);
-AT(vcs_owned, at, 1);
+ANSWER(vcs_owned, 6);
 AT(vcs_owned, gap, 2);
 AT(vcs_owned, entry, 3);
 AT(vcs_owned, part, 4);
 AT(vcs_owned, lane, 5);
+ANSWER(vcs_answer, 3);
+MEMBER(vcs_answer, number, int64_t, 16);
 
-_Static_assert(sizeof(vcs_answer) == 3 * sizeof(size_t), "vcs_answer has three numbers");
-AT(vcs_answer, refusal, 0);
-AT(vcs_answer, at, 1);
-_Static_assert(offsetof(vcs_answer, number) == 2 * sizeof(size_t), "vcs_answer.number stands at number 2");
-_Static_assert(_Generic(((vcs_answer *)0)->number, int64_t: 1, default: 0), "vcs_answer.number is an int64_t");
+_Static_assert(sizeof(vcs_call) == 72, "vcs_call has eight numbers, two bytes and six of padding");
+AT(vcs_call, kind, 0);
+AT(vcs_call, set, 1);
+AT(vcs_call, entry, 2);
+AT(vcs_call, part, 3);
+AT(vcs_call, lane, 4);
+AT(vcs_call, offset, 5);
+AT(vcs_call, app, 6);
+MEMBER(vcs_call, value, int64_t, 56);
+MEMBER(vcs_call, byte, uint8_t, 64);
+MEMBER(vcs_call, lanes, uint8_t, 65);
 
 _Static_assert(sizeof(vcs_taken) == 5 * sizeof(size_t), "vcs_taken has five numbers");
 AT(vcs_taken, refusal, 0);
@@ -86,6 +96,12 @@ _Static_assert(_Generic(&vcs_byte_write,
 _Static_assert(_Generic(&vcs_byte_read,
     vcs_answer (*)(size_t, const uint8_t *, size_t, const uint8_t *, size_t, const uint8_t *, size_t, size_t, size_t): 1,
     default: 0), "vcs_byte_read");
+_Static_assert(_Generic(&vcs_apply,
+    vcs_answer (*)(size_t, const uint8_t *, size_t, const uint8_t *, size_t, uint8_t *, size_t, size_t, uint8_t): 1,
+    default: 0), "vcs_apply");
+_Static_assert(_Generic(&vcs_perform,
+    vcs_answer (*)(size_t, const uint8_t *, size_t, const uint8_t *, size_t, uint8_t *, size_t, vcs_call): 1,
+    default: 0), "vcs_perform");
 _Static_assert(_Generic(&vcs_weight,
     vcs_answer (*)(size_t, const uint8_t *, size_t, const uint8_t *, size_t, const uint8_t *, size_t, size_t, size_t): 1,
     default: 0), "vcs_weight");
@@ -272,6 +288,18 @@ static void store_byte(const char *name, map m, size_t length, size_t set, size_
 static void fetch_byte(const char *name, map m, size_t length, size_t set, size_t offset, const size_t expected[6])
 {
     vcs_answer answer = vcs_byte_read(LENT(m), BANK(length), set, offset);
+    check_bank(name, m, &answer, sizeof answer, expected);
+}
+
+static void apply(const char *name, map m, size_t length, size_t set, uint8_t lanes, const size_t expected[6])
+{
+    vcs_answer answer = vcs_apply(LENT(m), BANK(length), set, lanes);
+    check_bank(name, m, &answer, sizeof answer, expected);
+}
+
+static void perform(const char *name, map m, size_t length, vcs_call call, const size_t expected[6])
+{
+    vcs_answer answer = vcs_perform(LENT(m), BANK(length), call);
     check_bank(name, m, &answer, sizeof answer, expected);
 }
 
@@ -676,6 +704,217 @@ static void byte_reads(void)
     fetch_byte("the last byte of the active set", m, 784, 2, 255, NUMBER(0x5A));
 }
 
+/* 02h for AppSel 1 to 4; 03h at offset 1 for 1 and 2, with a mask bit above the count; 04h at 3 for 1, 2 and 4 (P1), with
+   code mask 1FFFh; 12h at 7. */
+#define THE_PLAN \
+    {4, \
+     BYTES(0x02, 0x05, 0x0F, 0x01, 0x00, 0x03, 0x05, 0x13, 0x02, 0x00, 0x04, 0x07, 0x0B, 0x04, 0x00, 0x1F, 0xFF), \
+     BYTES(0x12, 0x07, 0x0F, 0x08, 0x00, 0x00, 0x00)}
+
+/* The AppSels of a staged set, all lanes alike. */
+static void put_apps(size_t set, uint8_t app)
+{
+    for (size_t lane = 1; lane <= 8; lane++) {
+        put(768 + 8 * set + lane - 1, app);
+    }
+}
+
+static void applies(void)
+{
+    map m = THE_PLAN;
+    fill(0xFF);
+    memset(wanted, 0, 784);
+    fresh("the plan's map", m, 784, NUMBERS(0, 0, 3, 1, 7, 15));
+    apply("no AppSel", m, 784, 0, 0x04, REFUSED(13, 3));
+    wanted[0] = 0x04;
+    store("02h, lane 3", m, 784, 0, 0, 0, 3, 1, YES);
+    wanted[1] = 0x20;
+    store("03h, lane 3", m, 784, 0, 1, 0, 3, 2, YES);
+    wanted[4] = 0x0C;
+    store("04h, lane 3", m, 784, 0, 2, 0, 3, 12, YES);
+    wanted[770] = 4;
+    choose("AppSel 4, lane 3", m, 784, 0, 3, 4, YES);
+    wanted[512] = 0x04;
+    wanted[512 + 4] = 0x0C;
+    apply("AppSel 4, lane 3", m, 784, 0, 0x04, YES);
+    fetch("02h, applied", m, 784, 2, 0, 0, 3, NUMBER(1));
+    fetch("03h, not for AppSel 4", m, 784, 2, 1, 0, 3, NUMBER(0));
+    fetch("04h, applied", m, 784, 2, 2, 0, 3, NUMBER(12));
+    wanted[770] = 2;
+    choose("AppSel 2, lane 3", m, 784, 0, 3, 2, YES);
+    wanted[512 + 1] = 0x20;
+    apply("AppSel 2, lane 3", m, 785, 0, 0x04, YES);
+    fetch("03h, applied", m, 784, 2, 1, 0, 3, NUMBER(2));
+
+    fill(0xFF);
+    put(780, 1);
+    put(256, 0x00);
+    put(256 + 2, 0xFE);
+    put(256 + 5, 0xF0);
+    wanted[512] = 0xEF;
+    wanted[512 + 2] = 0xFE;
+    wanted[512 + 5] = 0xF0;
+    apply("set 1, lane 5: the other lanes and 12h are kept", m, 784, 1, 0x10, YES);
+
+    fill(0x00);
+    put_apps(1, 1);
+    static const uint8_t staged[7] = {0xA5, 0x99, 0x66, 0xC0, 0x12, 0x34, 0x56};
+    for (size_t i = 0; i < sizeof staged; i++) {
+        put(256 + i, staged[i]);
+    }
+    memcpy(wanted + 512, staged, sizeof staged);
+    apply("all lanes", m, 784, 1, 0xFF, YES);
+
+    fill(0xFF);
+    apply("an empty mask", m, 784, 0, 0, YES);
+    apply("an empty mask on set 2", m, 784, 2, 0, REFUSED(11, 0));
+    apply("set 2", m, 784, 2, 0xFF, REFUSED(11, 0));
+    apply("set 3", m, 784, 3, 0xFF, REFUSED(10, 0));
+    apply("an empty mask on set 3", m, 784, 3, 0, REFUSED(10, 0));
+    apply("set 2^32", m, 784, (size_t)1 << 32, 0, REFUSED(10, 0));
+    apply("the largest set", m, 784, SIZE_MAX, 0xFF, REFUSED(10, 0));
+    apply("AppSel 255, lanes 2 and 8", m, 784, 1, 0x82, REFUSED(13, 2));
+    put(775, 5);
+    apply("AppSel 5 of 4, with its bit in a mask", m, 784, 0, 0x80, REFUSED(13, 8));
+    put(775, 0);
+    apply("AppSel 0", m, 784, 0, 0x80, REFUSED(13, 8));
+    apply("apply, 783 bytes", m, 783, 0, 0, REFUSED(8, 0));
+    apply("apply, no bank", m, 0, 3, 0xFF, REFUSED(8, 0));
+    m.count = 16;
+    apply("9 before 8", m, 783, 0, 0, REFUSED(9, 0));
+    m.count = 4;
+    m.ro_length = 6;
+    apply("apply, a bad string", m, 784, 0, 0, REFUSED(1, 3));
+    apply("1 before 10", m, 784, 3, 0xFF, REFUSED(1, 3));
+
+    m = (map)THE_PLAN;
+    fill(0x00);
+    put_apps(0, 1);
+    put(1, 0x03);
+    apply("03h holds 3 in lane 1", m, 784, 0, 0xFF, REFUSED(14, 1));
+    apply("lane 1 not chosen", m, 784, 0, 0xFE, YES);
+    put(6, 0xD0);
+    apply("04h holds 13 in lane 8", m, 784, 0, 0xFE, REFUSED(14, 8));
+    apply("the lowest lane of two", m, 784, 0, 0xFF, REFUSED(14, 1));
+    put(772, 0);
+    apply("13 in lane 5 before 14 in lane 1", m, 784, 0, 0xFF, REFUSED(13, 5));
+    put(768, 4);
+    apply("03h is not to be copied", m, 784, 0, 0x01, YES);
+    apply("14 needs a field to be copied", m, 784, 0, 0x81, REFUSED(14, 8));
+    put(768, 0);
+    apply("the lowest lane of two AppSels", m, 784, 0, 0x91, REFUSED(13, 1));
+
+    m = (map){9, BYTES(0x02, 0x06, 0x01, 0x00, 0x01, 0x00), NONE};
+    fill(0x00);
+    put(0, 0xC0);
+    put(774, 8);
+    put(775, 9);
+    wanted[512] = 0x80;
+    apply("AppSel 9 of 9, mask 0100h", m, 784, 0, 0xC0, YES);
+    put(775, 10);
+    apply("AppSel 10 of 9", m, 784, 0, 0xC0, REFUSED(13, 8));
+    apply("no string, AppSel above the count", (map){1, NONE, NONE}, 784, 0, 0x80, REFUSED(13, 8));
+    put(775, 1);
+    apply("no string", (map){1, NONE, NONE}, 784, 0, 0x80, YES);
+}
+
+/* A call of a kind; every other member is as large as can be, so what a kind ignores would show. */
+static vcs_call of_kind(size_t kind)
+{
+    return (vcs_call){kind, SIZE_MAX, SIZE_MAX, SIZE_MAX, SIZE_MAX, SIZE_MAX, SIZE_MAX, INT64_MAX, 0xFF, 0xFF};
+}
+
+static void performs(void)
+{
+    map m = THE_PLAN;
+    fill(0x00);
+    vcs_call call = of_kind(0);
+    call.set = 0;
+    call.lane = 3;
+    call.app = 4;
+    wanted[770] = 4;
+    perform("select", m, 784, call, YES);
+    call.app = 5;
+    perform("select, app 5 of 4", m, 784, call, REFUSED(12, 0));
+
+    call = of_kind(1);
+    call.set = 0;
+    call.entry = 2;
+    call.part = 0;
+    call.lane = 3;
+    call.value = 12;
+    wanted[4] = 0x0C;
+    perform("write", m, 784, call, YES);
+    call.value = -1;
+    perform("write, -1", m, 784, call, REFUSED(12, 0));
+    call.value = 12 + ((int64_t)1 << 32);
+    perform("write, 2^32 + 12", m, 784, call, REFUSED(12, 0));
+
+    call = of_kind(2);
+    call.set = 0;
+    call.entry = 2;
+    call.part = 0;
+    call.lane = 3;
+    perform("read", m, 784, call, NUMBER(12));
+    call.set = 2;
+    perform("read, before apply", m, 784, call, NUMBER(0));
+
+    call = of_kind(6);
+    call.set = 0;
+    call.lanes = 0x04;
+    wanted[512 + 4] = 0x0C;
+    perform("apply", m, 784, call, YES);
+    call.lanes = 0x0C;
+    perform("apply, no AppSel in lane 4", m, 784, call, REFUSED(13, 4));
+    call.set = 2;
+    perform("apply on set 2", m, 784, call, REFUSED(11, 0));
+    call.set = 3;
+    perform("apply on set 3", m, 784, call, REFUSED(10, 0));
+
+    call = of_kind(3);
+    call.set = 0;
+    call.offset = 4;
+    call.byte = 0xFD;
+    wanted[4] = 0xFD;
+    perform("byte write", m, 784, call, YES);
+
+    call = of_kind(4);
+    call.set = 0;
+    call.offset = 4;
+    perform("byte read", m, 784, call, NUMBER(0xFD));
+    call.offset = 7;
+    perform("byte read, the staged length", m, 784, call, REFUSED(10, 0));
+
+    call = of_kind(6);
+    call.set = 0;
+    call.lanes = 0x04;
+    perform("apply, 04h holds 13 in lane 3", m, 784, call, REFUSED(14, 3));
+
+    call = of_kind(5);
+    call.entry = 3;
+    call.part = 0;
+    call.lane = 1;
+    call.value = -14;
+    wanted[512 + 7] = 0xF2;
+    perform("publish", m, 784, call, YES);
+    call.entry = 0;
+    perform("publish, an RW entry", m, 784, call, REFUSED(11, 0));
+
+    call = (vcs_call){7, 0, 0, 0, 1, 0, 1, 1, 1, 0};
+    perform("kind 7", m, 784, call, REFUSED(10, 0));
+    call.kind = 256;
+    perform("kind 256", m, 784, call, REFUSED(10, 0));
+    call.kind = ((size_t)1 << 32) + 2;
+    perform("kind 2^32 + 2", m, 784, call, REFUSED(10, 0));
+    perform("the largest numbers", m, 784, of_kind(SIZE_MAX), REFUSED(10, 0));
+    perform("8 before 10: kind 7", m, 783, of_kind(7), REFUSED(8, 0));
+    m.count = 0;
+    perform("9 before 8: kind 7", m, 783, of_kind(7), REFUSED(9, 0));
+    m.count = 4;
+    m.ro_length = 6;
+    perform("1 before 10: kind 7", m, 784, of_kind(7), REFUSED(1, 3));
+}
+
 /* 02h, then 12h at offsets 1, 9, 17 and 25, of steps 0 to 3. */
 #define THE_STEPS \
     {4, BYTES(0x02, 0x05, 0x0F, 0x01, 0x00), \
@@ -768,6 +1007,8 @@ int main(void)
     publishes();
     byte_writes();
     byte_reads();
+    applies();
+    performs();
     weights();
     takes();
     printf("interface: %d checks\n", checks);

@@ -68,6 +68,22 @@ pub struct Taken {
     pub position: usize,
 }
 
+/// vcs_call: a call as data.
+#[repr(C)]
+#[derive(Clone, Copy, Debug)]
+pub struct FlatCall {
+    pub kind: usize,
+    pub set: usize,
+    pub entry: usize,
+    pub part: usize,
+    pub lane: usize,
+    pub offset: usize,
+    pub app: usize,
+    pub value: i64,
+    pub byte: u8,
+    pub lanes: u8,
+}
+
 impl Loaded {
     /// The entries of an accepted map, or those before the entry that refused it.
     pub fn entries(&self) -> usize {
@@ -78,7 +94,7 @@ impl Loaded {
 macro_rules! refused {
     ($($answer:ident)*) => {$(
         impl $answer {
-            /// A refusal with the entry that it names, or 0; every other member is 0.
+            /// A refusal with the entry or lane that it names, or 0; every other member is 0.
             pub fn refused(refusal: usize, at: usize) -> $answer {
                 $answer { refusal, at, ..$answer::default() }
             }
@@ -88,222 +104,57 @@ macro_rules! refused {
 
 refused! { Loaded Located Placed Owned Answered }
 
-mod exports {
-    use super::{Answered, Loaded, Located, Owned, Placed, Taken};
-
-    extern "C" {
-        pub fn vcs_load(count: usize, rw: *const u8, rw_length: usize, ro: *const u8, ro_length: usize) -> Loaded;
-
-        pub fn vcs_entry(
-            count: usize,
-            rw: *const u8,
-            rw_length: usize,
-            ro: *const u8,
-            ro_length: usize,
-            entry: usize,
-        ) -> Located;
-
-        pub fn vcs_place(
-            count: usize,
-            rw: *const u8,
-            rw_length: usize,
-            ro: *const u8,
-            ro_length: usize,
-            set: usize,
-            entry: usize,
-            part: usize,
-            lane: usize,
-        ) -> Placed;
-
-        pub fn vcs_owner(
-            count: usize,
-            rw: *const u8,
-            rw_length: usize,
-            ro: *const u8,
-            ro_length: usize,
-            set: usize,
-            offset: usize,
-            bit: usize,
-        ) -> Owned;
-
-        pub fn vcs_fresh(
-            count: usize,
-            rw: *const u8,
-            rw_length: usize,
-            ro: *const u8,
-            ro_length: usize,
-            bank: *mut u8,
-            bank_length: usize,
-        ) -> Loaded;
-
-        pub fn vcs_select(
-            count: usize,
-            rw: *const u8,
-            rw_length: usize,
-            ro: *const u8,
-            ro_length: usize,
-            bank: *mut u8,
-            bank_length: usize,
-            set: usize,
-            lane: usize,
-            app: usize,
-        ) -> Answered;
-
-        pub fn vcs_write(
-            count: usize,
-            rw: *const u8,
-            rw_length: usize,
-            ro: *const u8,
-            ro_length: usize,
-            bank: *mut u8,
-            bank_length: usize,
-            set: usize,
-            entry: usize,
-            part: usize,
-            lane: usize,
-            value: i64,
-        ) -> Answered;
-
-        pub fn vcs_read(
-            count: usize,
-            rw: *const u8,
-            rw_length: usize,
-            ro: *const u8,
-            ro_length: usize,
-            bank: *const u8,
-            bank_length: usize,
-            set: usize,
-            entry: usize,
-            part: usize,
-            lane: usize,
-        ) -> Answered;
-
-        pub fn vcs_publish(
-            count: usize,
-            rw: *const u8,
-            rw_length: usize,
-            ro: *const u8,
-            ro_length: usize,
-            bank: *mut u8,
-            bank_length: usize,
-            entry: usize,
-            part: usize,
-            lane: usize,
-            value: i64,
-        ) -> Answered;
-
-        pub fn vcs_byte_write(
-            count: usize,
-            rw: *const u8,
-            rw_length: usize,
-            ro: *const u8,
-            ro_length: usize,
-            bank: *mut u8,
-            bank_length: usize,
-            set: usize,
-            offset: usize,
-            byte: u8,
-        ) -> Answered;
-
-        pub fn vcs_byte_read(
-            count: usize,
-            rw: *const u8,
-            rw_length: usize,
-            ro: *const u8,
-            ro_length: usize,
-            bank: *const u8,
-            bank_length: usize,
-            set: usize,
-            offset: usize,
-        ) -> Answered;
-
-        pub fn vcs_weight(
-            count: usize,
-            rw: *const u8,
-            rw_length: usize,
-            ro: *const u8,
-            ro_length: usize,
-            bank: *const u8,
-            bank_length: usize,
-            entry: usize,
-            lane: usize,
-        ) -> Answered;
-
-        pub fn vcs_take(count: usize, string: *const u8, string_length: usize, position: usize) -> Taken;
-    }
-}
-
-// Each pointer and length below is a slice's own, and the exports take any number and keep no pointer.
-
-/// The load.
-pub fn load(count: usize, rw: &[u8], ro: &[u8]) -> Loaded {
-    unsafe { exports::vcs_load(count, rw.as_ptr(), rw.len(), ro.as_ptr(), ro.len()) }
-}
-
-/// The entry call.
-pub fn locate(count: usize, rw: &[u8], ro: &[u8], entry: usize) -> Located {
-    unsafe { exports::vcs_entry(count, rw.as_ptr(), rw.len(), ro.as_ptr(), ro.len(), entry) }
-}
-
-/// The place call.
-pub fn place(count: usize, rw: &[u8], ro: &[u8], set: usize, entry: usize, part: usize, lane: usize) -> Placed {
-    unsafe { exports::vcs_place(count, rw.as_ptr(), rw.len(), ro.as_ptr(), ro.len(), set, entry, part, lane) }
-}
-
-/// The owner call.
-pub fn owner(count: usize, rw: &[u8], ro: &[u8], set: usize, offset: usize, bit: usize) -> Owned {
-    unsafe { exports::vcs_owner(count, rw.as_ptr(), rw.len(), ro.as_ptr(), ro.len(), set, offset, bit) }
-}
-
-/// An export, given the case first and then its own arguments.
-macro_rules! given {
-    ($export:ident, $case:ident $(, $argument:expr)*) => {{
-        let Case { count, rw, ro } = *$case;
-        unsafe { exports::$export(count, rw.as_ptr(), rw.len(), ro.as_ptr(), ro.len() $(, $argument)*) }
+/// A safe function over an export, which takes any number and keeps no pointer; each pointer and length is a slice's own.
+/// Without a bank it takes count and strings, else the case and the bank.
+macro_rules! export {
+    (@ $export:ident($count:expr, $rw:expr, $ro:expr $(, $value:expr => $type:ty)*) -> $answer:ty) => {{
+        extern "C" {
+            fn $export(
+                count: usize, rw: *const u8, rw_length: usize, ro: *const u8, ro_length: usize $(, _: $type)*
+            ) -> $answer;
+        }
+        unsafe { $export($count, $rw.as_ptr(), $rw.len(), $ro.as_ptr(), $ro.len() $(, $value)*) }
     }};
+    ($name:ident = $export:ident(bank: &[u8] $(, $argument:ident: $type:ty)*) -> $answer:ty) => {
+        pub fn $name(case: &Case, bank: &[u8] $(, $argument: $type)*) -> $answer {
+            export!(@ $export(case.count, case.rw, case.ro,
+                bank.as_ptr() => *const u8, bank.len() => usize $(, $argument => $type)*) -> $answer)
+        }
+    };
+    ($name:ident = $export:ident(bank: &mut [u8] $(, $argument:ident: $type:ty)*) -> $answer:ty) => {
+        pub fn $name(case: &Case, bank: &mut [u8] $(, $argument: $type)*) -> $answer {
+            export!(@ $export(case.count, case.rw, case.ro,
+                bank.as_mut_ptr() => *mut u8, bank.len() => usize $(, $argument => $type)*) -> $answer)
+        }
+    };
+    ($name:ident = $export:ident($($argument:ident: $type:ty),*) -> $answer:ty) => {
+        pub fn $name(count: usize, rw: &[u8], ro: &[u8] $(, $argument: $type)*) -> $answer {
+            export!(@ $export(count, rw, ro $(, $argument => $type)*) -> $answer)
+        }
+    };
 }
 
-/// Fresh.
-pub fn fresh(case: &Case, bank: &mut [u8]) -> Loaded {
-    given!(vcs_fresh, case, bank.as_mut_ptr(), bank.len())
+export! { load = vcs_load() -> Loaded }
+export! { locate = vcs_entry(entry: usize) -> Located }
+export! { place = vcs_place(set: usize, entry: usize, part: usize, lane: usize) -> Placed }
+export! { owner = vcs_owner(set: usize, offset: usize, bit: usize) -> Owned }
+export! { fresh = vcs_fresh(bank: &mut [u8]) -> Loaded }
+export! { select = vcs_select(bank: &mut [u8], set: usize, lane: usize, app: usize) -> Answered }
+export! {
+    write = vcs_write(bank: &mut [u8], set: usize, entry: usize, part: usize, lane: usize, value: i64) -> Answered
 }
+export! { read = vcs_read(bank: &[u8], set: usize, entry: usize, part: usize, lane: usize) -> Answered }
+export! { publish = vcs_publish(bank: &mut [u8], entry: usize, part: usize, lane: usize, value: i64) -> Answered }
+export! { byte_write = vcs_byte_write(bank: &mut [u8], set: usize, offset: usize, byte: u8) -> Answered }
+export! { byte_read = vcs_byte_read(bank: &[u8], set: usize, offset: usize) -> Answered }
+export! { apply = vcs_apply(bank: &mut [u8], set: usize, lanes: u8) -> Answered }
+export! { perform = vcs_perform(bank: &mut [u8], call: FlatCall) -> Answered }
+export! { weight = vcs_weight(bank: &[u8], entry: usize, lane: usize) -> Answered }
 
-/// Select.
-pub fn select(case: &Case, bank: &mut [u8], set: usize, lane: usize, app: usize) -> Answered {
-    given!(vcs_select, case, bank.as_mut_ptr(), bank.len(), set, lane, app)
-}
-
-/// Write.
-pub fn write(case: &Case, bank: &mut [u8], set: usize, entry: usize, part: usize, lane: usize, value: i64) -> Answered {
-    given!(vcs_write, case, bank.as_mut_ptr(), bank.len(), set, entry, part, lane, value)
-}
-
-/// Read.
-pub fn read(case: &Case, bank: &[u8], set: usize, entry: usize, part: usize, lane: usize) -> Answered {
-    given!(vcs_read, case, bank.as_ptr(), bank.len(), set, entry, part, lane)
-}
-
-/// Publish.
-pub fn publish(case: &Case, bank: &mut [u8], entry: usize, part: usize, lane: usize, value: i64) -> Answered {
-    given!(vcs_publish, case, bank.as_mut_ptr(), bank.len(), entry, part, lane, value)
-}
-
-/// Byte write.
-pub fn byte_write(case: &Case, bank: &mut [u8], set: usize, offset: usize, byte: u8) -> Answered {
-    given!(vcs_byte_write, case, bank.as_mut_ptr(), bank.len(), set, offset, byte)
-}
-
-/// Byte read.
-pub fn byte_read(case: &Case, bank: &[u8], set: usize, offset: usize) -> Answered {
-    given!(vcs_byte_read, case, bank.as_ptr(), bank.len(), set, offset)
-}
-
-/// Weight.
-pub fn weight(case: &Case, bank: &[u8], entry: usize, lane: usize) -> Answered {
-    given!(vcs_weight, case, bank.as_ptr(), bank.len(), entry, lane)
-}
-
-/// The reader's step.
+/// The reader's step, which takes one string.
 pub fn take(count: usize, string: &[u8], position: usize) -> Taken {
-    unsafe { exports::vcs_take(count, string.as_ptr(), string.len(), position) }
+    extern "C" {
+        fn vcs_take(count: usize, string: *const u8, string_length: usize, position: usize) -> Taken;
+    }
+    unsafe { vcs_take(count, string.as_ptr(), string.len(), position) }
 }

@@ -24,6 +24,13 @@ const TEXTS: [(&[u8], &str); 4] = [
 pub const INPUTS: [&[u8]; 3] =
     [MAP_INPUT, include_bytes!("../../examples/appendix-a.map"), include_bytes!("../../examples/appendix-b.map")];
 
+/// RW and RO with every ID of the table, every code in the masks, a gap, and a 12h entry of each step; for count 4.
+pub const WHOLE: [&str; 2] = [
+    "02 05 0F 01 00 03 05 0F 02 00 04 07 0F 04 00 FF FF 05 05 0F 01 00 06 05 0F 01 00 \
+     07 08 0F 08 00 00 FF FF 08 07 0F 04 00 FF FF 0F 05 0F 08 00 10 05 0F 08 00 00 04 00 02",
+    "11 05 0F 10 00 12 07 0F 08 00 00 00 12 07 0F 08 00 00 01 12 07 0F 08 00 00 02 12 07 0F 08 00 00 03",
+];
+
 /// Both entry counts, staged and active length.
 fn accepted(rw_count: usize, ro_count: usize, staged_length: usize, active_length: usize) -> Loaded {
     Loaded { refusal: 0, at: 0, rw_count, ro_count, staged_length, active_length }
@@ -101,10 +108,7 @@ fn settings() -> Vec<(&'static str, usize, &'static str, &'static str, Loaded)> 
         ("media after media", 4, "0F 05 00 08 01 02 05 00 01 01", "", accepted(2, 0, 9, 9)),
         ("flag bits 1 to 7 are ignored", 4, "0F 05 00 08 FE 02 05 00 01 00", "", accepted(2, 0, 9, 9)),
         ("media side in RO", 4, "", "11 05 00 10 01 12 07 00 08 00 00 00", accepted(0, 2, 0, 24)),
-        ("every ID of the table, every code in the masks", 4,
-         "02 05 0F 01 00 03 05 0F 02 00 04 07 0F 04 00 FF FF 05 05 0F 01 00 06 05 0F 01 00 \
-          07 08 0F 08 00 00 FF FF 08 07 0F 04 00 FF FF 0F 05 0F 08 00 10 05 0F 08 00",
-         "11 05 0F 10 00 12 07 0F 08 00 00 00", accepted(9, 2, 37, 61)),
+        ("every ID of the table", 4, WHOLE[0], WHOLE[1], accepted(10, 5, 39, 87)),
         ("P10, P11 and 07h without 12", 9,
          "04 08 01 FF 04 00 1F FF 08 08 01 FF 05 00 FF FF 07 09 01 FF 08 00 FF EF FF", "", accepted(3, 0, 17, 17)),
     ]

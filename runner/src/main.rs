@@ -49,9 +49,7 @@ fn main() -> ExitCode {
 
 fn compare() -> bool {
     let mut calls = calls::CALLS.to_vec();
-    calls.extend(&lists::VALUES_BY_ID);
-    calls.extend(&lists::BYTES_BY_KIND);
-    calls.extend(&lists::WEIGHTS_BY_STEP);
+    calls.extend(lists::rows());
     if program::exists() {
         calls.push(&program::CALL);
     }
@@ -73,8 +71,7 @@ fn compare() -> bool {
         }
     }
     lists::compare(&mut report);
-    lists::compare_whole(&mut report);
-    lists::compare_codes(&mut report);
+    lists::whole::compare(&mut report);
     if program::exists() {
         program::compare(&mut report);
     } else {

@@ -20,6 +20,14 @@ pub fn shape(id: u8) -> Shape {
     Shape { least, needed }
 }
 
+/// The parts of an ID's fields.
+pub fn parts(id: u8) -> usize {
+    match id {
+        0x07 | 0x11 => 2,
+        _ => usize::from(shape(id).needed > 0),
+    }
+}
+
 /// A, also for a count that is refused.
 pub fn mask_bytes(count: usize) -> usize {
     if count <= 8 {

@@ -1,11 +1,14 @@
--- What a flat answer has for each case of an answer: 01's number and values.
+-- What a flat answer has for each case of an answer: 01's number and values; and which call a flat call is.
 use mathlib.Core.Bool.{cond}
 use lib.IntN.{pos}
 use Prim.Native.Nat.{ℕ}
+use lib.Dec.{eqb}
 use Rattle.rules.specs.declared.Refusal.{Refusal}
 use Rattle.rules.specs.declared.Refusal.the-variants.{Plain as plain, AtEntry as atEntry, AtLane as atLane}
 use Rattle.rules.specs.declared.Answer.{Answer}
 use Rattle.rules.specs.declared.Answer.the-variants.{Yes as yes, Number as theNumber, Refused as refused}
+use Rattle.rules.specs.declared.Call.{Call}
+use Rattle.rules.specs.declared.Call.the-variants.{Select as select, Write as write, Read as read, ByteWrite as byteWrite, ByteRead as byteRead, Publish as publish, Apply as apply}
 use Rattle.rules.specs.declared.Loaded.{Loaded}
 use Rattle.rules.specs.declared.Loaded.the-variants.{Accepted as accepted, Refused as rejected}
 use Rattle.rules.specs.declared.Placed.{Placed}
@@ -23,6 +26,7 @@ use Rattle.vcs.specs.declared.FlatPlaced.{FlatPlaced}
 use Rattle.vcs.specs.declared.FlatOwned.{FlatOwned}
 use Rattle.vcs.specs.declared.FlatAnswer.{FlatAnswer}
 use Rattle.vcs.specs.declared.FlatTaken.{FlatTaken}
+use Rattle.vcs.specs.declared.FlatCall.{FlatCall}
 
 -- the number of a refusal and its extra
 abbrev pub reasonOf : Refusal → Reason
@@ -59,3 +63,15 @@ abbrev pub flatTaken : Taken → ℕ → FlatTaken
 flatTaken (taken s l) p = record { refusal = 0; end = 0; start = s; length = l; position = p }
 flatTaken noMore p = record { refusal = 0; end = 1; start = 0; length = 0; position = p }
 flatTaken (notTaken r) p = record { refusal = reasonOf r .number; end = 0; start = 0; length = 0; position = p }
+
+-- A call by its kind. A kind that doesn't exist is a set that doesn't exist: 10, after 9, 8 and 1 to 7.
+unfoldable pub callOf : FlatCall → Call
+callOf c =
+    cond (eqb (c .kind) 0) (select (c .set) (c .lane) (c .app))
+    (cond (eqb (c .kind) 1) (write (c .set) (c .entry) (c .part) (c .lane) (c .value))
+    (cond (eqb (c .kind) 2) (read (c .set) (c .entry) (c .part) (c .lane))
+    (cond (eqb (c .kind) 3) (byteWrite (c .set) (c .offset) (c .byte))
+    (cond (eqb (c .kind) 4) (byteRead (c .set) (c .offset))
+    (cond (eqb (c .kind) 5) (publish (c .entry) (c .part) (c .lane) (c .value))
+    (cond (eqb (c .kind) 6) (apply (c .set) (c .lanes))
+    (apply 3 0)))))))

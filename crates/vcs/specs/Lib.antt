@@ -1,2 +1,2 @@
--- The flat answers of the C interface.
+-- The flat answers and calls of the C interface.
 pub mod Flat

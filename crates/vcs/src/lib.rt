@@ -6,10 +6,12 @@ ghost use Rattle.rules.specs.Bank.{freshStep, bankStep};
 ghost use Rattle.rules.specs.Beside.{placeOf, ownerCall, weightCall};
 ghost use Rattle.rules.specs.Reader.{takeOf, movedTo};
 ghost use Rattle.descriptor.specs.Locate.{locatedOf};
-ghost use Rattle.vcs.specs.Flat.{reasonOf, flatLoaded, flatEntry, flatPlaced, flatOwned, flatAnswer, flatTaken};
+ghost use Rattle.vcs.specs.Flat.{reasonOf, flatLoaded, flatEntry, flatPlaced, flatOwned, flatAnswer, flatTaken, callOf};
+use control_set::apply;
 use control_set::byte_read;
 use control_set::byte_write;
 use control_set::fresh;
+use control_set::perform;
 use control_set::publish;
 use control_set::read;
 use control_set::select;
@@ -22,6 +24,7 @@ use placement::owner;
 use placement::place;
 use reader::take;
 use rules::Answer;
+use rules::Call;
 use rules::Loaded;
 use rules::Owned;
 use rules::Placed;
@@ -94,6 +97,21 @@ pub struct FlatTaken {
     pub position: usize,
 }
 
+// vcs_call
+#[repr(C)]
+pub struct FlatCall {
+    pub kind: usize,
+    pub set: usize,
+    pub entry: usize,
+    pub part: usize,
+    pub lane: usize,
+    pub offset: usize,
+    pub app: usize,
+    pub value: i64,
+    pub byte: u8,
+    pub lanes: u8,
+}
+
 fn reason_of(r: Refusal) -> Reason
     ensures { λ x. ⌜ x ≡ reasonOf r ⌝ }
 {
@@ -157,6 +175,53 @@ fn flat_answer(a: Answer) -> FlatAnswer
                 number: 0,
             }
         }
+    }
+}
+
+// A call by its kind. A kind above 6 is apply on set 3: refused with 10, after all that comes before 10.
+fn call_of(c: FlatCall) -> Call
+    ensures { λ r. ⌜ r ≡ callOf c ⌝ }
+{
+    let kind = c.kind;
+    match kind {
+        0 => Call::Select {
+            set: c.set,
+            lane: c.lane,
+            app: c.app,
+        },
+        1 => Call::Write {
+            set: c.set,
+            entry: c.entry,
+            part: c.part,
+            lane: c.lane,
+            value: c.value,
+        },
+        2 => Call::Read {
+            set: c.set,
+            entry: c.entry,
+            part: c.part,
+            lane: c.lane,
+        },
+        3 => Call::ByteWrite {
+            set: c.set,
+            offset: c.offset,
+            byte: c.byte,
+        },
+        4 => Call::ByteRead {
+            set: c.set,
+            offset: c.offset,
+        },
+        5 => Call::Publish {
+            entry: c.entry,
+            part: c.part,
+            lane: c.lane,
+            value: c.value,
+        },
+        6 => Call::Apply {
+            set: c.set,
+            lanes: c.lanes,
+        },
+        _ => Call::Apply { set: 3, lanes: 0 },
     }
 }
 
@@ -395,6 +460,37 @@ pub extern "C" fn vcs_publish(
     ensures after { λ _. ⌜ now (bank .exit) ≡ bankStep count (now (rw .entry)) (now (ro .entry)) (Call.Publish entry part lane value) (now (bank .entry)) .1 ⌝ }
 {
     flat_answer(publish(count, rw, ro, bank, entry, part, lane, value))
+}
+
+// Apply: the fields of the chosen lanes are copied from a staged set to the active set, all or nothing.
+#[no_mangle]
+pub extern "C" fn vcs_apply(
+    count: usize,
+    rw: &[u8],
+    ro: &[u8],
+    bank: &mut [u8],
+    set: usize,
+    lanes: u8,
+) -> FlatAnswer
+    ensures answer { λ r. ⌜ r ≡ flatAnswer (bankStep count (now (rw .entry)) (now (ro .entry)) (Call.Apply set lanes) (now (bank .entry)) .0) ⌝ }
+    ensures after { λ _. ⌜ now (bank .exit) ≡ bankStep count (now (rw .entry)) (now (ro .entry)) (Call.Apply set lanes) (now (bank .entry)) .1 ⌝ }
+{
+    flat_answer(apply(count, rw, ro, bank, set, lanes))
+}
+
+// Perform: any of the seven calls, by its kind.
+#[no_mangle]
+pub extern "C" fn vcs_perform(
+    count: usize,
+    rw: &[u8],
+    ro: &[u8],
+    bank: &mut [u8],
+    call: FlatCall,
+) -> FlatAnswer
+    ensures answer { λ r. ⌜ r ≡ flatAnswer (bankStep count (now (rw .entry)) (now (ro .entry)) (callOf call) (now (bank .entry)) .0) ⌝ }
+    ensures after { λ _. ⌜ now (bank .exit) ≡ bankStep count (now (rw .entry)) (now (ro .entry)) (callOf call) (now (bank .entry)) .1 ⌝ }
+{
+    flat_answer(perform(count, rw, ro, bank, call_of(call)))
 }
 
 // Weight: the active number of a lane of a 12h entry, in thousandths.

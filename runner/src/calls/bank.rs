@@ -2,9 +2,11 @@
 
 use std::fmt;
 
+use second::Table;
+
 use super::{load, reason};
 use crate::case::{Case, Hex};
-use crate::engine::{self, Answered, Loaded};
+use crate::engine::{self, Answered, FlatCall, Loaded};
 use crate::random::Random;
 use crate::report::{Answer, Report};
 use crate::tally::Row;
@@ -16,7 +18,15 @@ pub static READ: Row = Row { name: "read", numbers: &[0, 1, 2, 3, 4, 5, 6, 7, 8,
 pub static PUBLISH: Row = Row { name: "publish", numbers: &[0, 1, 2, 3, 4, 5, 6, 7, 8, 9, 10, 11, 12] };
 pub static BYTE_WRITE: Row = Row { name: "byte write", numbers: &[0, 1, 2, 3, 4, 5, 6, 7, 8, 9, 10, 11] };
 pub static BYTE_READ: Row = Row { name: "byte read", numbers: &[0, 1, 2, 3, 4, 5, 6, 7, 8, 9, 10] };
+pub static APPLY: Row = Row { name: "apply", numbers: &[0, 1, 2, 3, 4, 5, 6, 7, 8, 9, 10, 11, 13, 14] };
+pub static PERFORM: Row = Row { name: "perform", numbers: &[0, 1, 2, 3, 4, 5, 6, 7, 8, 9, 10, 11, 12, 13, 14] };
+pub static UNKNOWN: Row = Row { name: "perform: unknown kind", numbers: &[1, 2, 3, 4, 5, 6, 7, 8, 9, 10] };
 pub static WEIGHT: Row = Row { name: "weight", numbers: &[0, 1, 2, 3, 4, 5, 6, 7, 8, 9, 10] };
+
+/// The end of a list after a fresh, against the plain table: the bank, each number by read, each AppSel by apply.
+pub static END_BANK: Row = Row { name: "end: bank", numbers: &[0] };
+pub static END_READ: Row = Row { name: "end: read", numbers: &[0, 10, 11] };
+pub static END_APPLY: Row = Row { name: "end: apply", numbers: &[0, 13, 14] };
 
 /// The least length of a bank that is accepted.
 const LEAST: usize = 784;
@@ -24,10 +34,12 @@ const LEAST: usize = 784;
 /// Bytes behind a lent bank, which no call may reach.
 const BEHIND: usize = 16;
 
-/// A bank of a length, in a buffer that is `BEHIND` bytes longer.
+/// A bank of a length, in a buffer that is `BEHIND` bytes longer; from an accepted fresh on, with the plain table beside it.
+#[derive(Clone)]
 pub struct Bank {
     buffer: Vec<u8>,
     length: usize,
+    table: Option<Table>,
 }
 
 impl Bank {
@@ -43,14 +55,20 @@ impl Bank {
         match random.below(4) {
             0 => buffer[..length].fill(0),
             1 => buffer[..length].fill(0xFF),
+            // AppSels about the count
+            2 if length >= LEAST => buffer[768..LEAST].fill_with(|| random.below(20) as u8),
             _ => {}
         }
-        Bank { buffer, length }
+        Bank { buffer, length, table: None }
     }
 
     /// Of the least length, all ones.
     pub fn ones() -> Bank {
-        Bank { buffer: vec![0xFF; LEAST + BEHIND], length: LEAST }
+        Bank { buffer: vec![0xFF; LEAST + BEHIND], length: LEAST, table: None }
+    }
+
+    pub fn lent(&self) -> &[u8] {
+        &self.buffer[..self.length]
     }
 
     pub fn accepted(&self) -> bool {
@@ -62,8 +80,19 @@ impl Bank {
 #[derive(Clone, Copy, Debug)]
 pub enum Call {
     Fresh,
-    Weight { entry: usize, lane: usize },
+    Weight {
+        entry: usize,
+        lane: usize,
+    },
     Listed(second::Call),
+    /// Perform with a kind that doesn't exist.
+    Unknown(FlatCall),
+}
+
+impl Answer for Answered {
+    fn refusal(&self) -> usize {
+        self.refusal
+    }
 }
 
 /// What a call answers.
@@ -73,12 +102,23 @@ enum Said {
     Answered(Answered),
 }
 
+impl Said {
+    /// The refusal number, 0 for none, and the entry or lane that it names.
+    fn reason(&self) -> (usize, usize) {
+        match self {
+            Said::Loaded(loaded) => (loaded.refusal, loaded.at),
+            Said::Answered(answered) => (answered.refusal, answered.at),
+        }
+    }
+}
+
 /// The row and the engine's answer of a call.
 fn of_engine(case: &Case, bank: &mut [u8], call: Call) -> (&'static Row, Said) {
     use second::Call::{Apply, ByteRead, ByteWrite, Publish, Read, Select, Write};
     let listed = match call {
         Call::Fresh => return (&FRESH, Said::Loaded(engine::fresh(case, bank))),
         Call::Weight { entry, lane } => return (&WEIGHT, Said::Answered(engine::weight(case, bank, entry, lane))),
+        Call::Unknown(call) => return (&UNKNOWN, Said::Answered(engine::perform(case, bank, call))),
         Call::Listed(listed) => listed,
     };
     let (row, answered) = match listed {
@@ -88,27 +128,60 @@ fn of_engine(case: &Case, bank: &mut [u8], call: Call) -> (&'static Row, Said) {
         Publish { entry, part, lane, value } => (&PUBLISH, engine::publish(case, bank, entry, part, lane, value)),
         ByteWrite { set, offset, byte } => (&BYTE_WRITE, engine::byte_write(case, bank, set, offset, byte)),
         ByteRead { set, offset } => (&BYTE_READ, engine::byte_read(case, bank, set, offset)),
-        Apply { .. } => panic!("the engine has no export for {listed:?}"),
+        Apply { set, lanes } => (&APPLY, engine::apply(case, bank, set, lanes)),
     };
     (row, Said::Answered(answered))
 }
 
+/// A call as data. Members that its kind ignores are as large as can be.
+fn flat(call: second::Call) -> FlatCall {
+    use second::Call::{Apply, ByteRead, ByteWrite, Publish, Read, Select, Write};
+    const MAX: usize = usize::MAX;
+    let flat = FlatCall {
+        kind: MAX,
+        set: MAX,
+        entry: MAX,
+        part: MAX,
+        lane: MAX,
+        offset: MAX,
+        app: MAX,
+        value: i64::MAX,
+        byte: 0xFF,
+        lanes: 0xFF,
+    };
+    match call {
+        Select { set, lane, app } => FlatCall { kind: 0, set, lane, app, ..flat },
+        Write { set, entry, part, lane, value } => FlatCall { kind: 1, set, entry, part, lane, value, ..flat },
+        Read { set, entry, part, lane } => FlatCall { kind: 2, set, entry, part, lane, ..flat },
+        ByteWrite { set, offset, byte } => FlatCall { kind: 3, set, offset, byte, ..flat },
+        ByteRead { set, offset } => FlatCall { kind: 4, set, offset, ..flat },
+        Publish { entry, part, lane, value } => FlatCall { kind: 5, entry, part, lane, value, ..flat },
+        Apply { set, lanes } => FlatCall { kind: 6, set, lanes, ..flat },
+    }
+}
+
 fn of_second(case: &Case, bank: &mut [u8], call: Call) -> Said {
     let Case { count, rw, ro } = *case;
-    let answer = match call {
+    Said::Answered(as_engine(match call {
         Call::Fresh => return Said::Loaded(load::as_engine(second::fresh(count, rw, ro, bank))),
         Call::Weight { entry, lane } => second::weight(count, rw, ro, bank, entry, lane)
             .map_or_else(second::Answer::Refused, second::Answer::Number),
         Call::Listed(listed) => second::perform(count, rw, ro, bank, listed),
-    };
-    Said::Answered(match answer {
+        // A kind that doesn't exist is refused as a set that doesn't (D60).
+        Call::Unknown(_) => second::perform(count, rw, ro, bank, second::Call::ByteRead { set: 3, offset: 0 }),
+    }))
+}
+
+/// An answer of the second program, as the engine gives it.
+fn as_engine(answer: second::Answer) -> Answered {
+    match answer {
         second::Answer::Yes => Answered::default(),
         second::Answer::Number(number) => Answered { number, ..Answered::default() },
         second::Answer::Refused(refusal) => {
             let (number, at) = reason(refusal);
             Answered::refused(number, at)
         }
-    })
+    }
 }
 
 /// An answer and the buffer after the call; shown with the bytes that the call changed.
@@ -121,10 +194,7 @@ struct After<'a> {
 
 impl Answer for After<'_> {
     fn refusal(&self) -> usize {
-        match &self.said {
-            Said::Loaded(loaded) => loaded.refusal,
-            Said::Answered(answered) => answered.refusal,
-        }
+        self.said.reason().0
     }
 }
 
@@ -140,15 +210,73 @@ impl fmt::Debug for After<'_> {
     }
 }
 
-/// Compares one call, which the bank then has behind it. The refusal number, 0 for none, if the programs agree.
-pub fn compare(report: &mut Report, case: &Case, bank: &mut Bank, call: Call) -> Option<usize> {
+/// A call that the programs agree on: its refusal number, 0 for none, the entry or lane that it names, and the bank before it.
+pub struct Agreed {
+    pub refusal: usize,
+    pub at: usize,
+    pub before: Vec<u8>,
+}
+
+/// Compares one call, which the bank then has behind it; one of the seven also by perform and, after a fresh, with the answer
+/// of the plain table.
+pub fn compare(report: &mut Report, case: &Case, bank: &mut Bank, call: Call) -> Option<Agreed> {
+    let length = bank.length;
     let before = bank.buffer.clone();
-    let mut second = before.clone();
-    let (row, said) = of_engine(case, &mut bank.buffer[..bank.length], call);
+    let (row, said) = of_engine(case, &mut bank.buffer[..length], call);
     let engine = After { said, before: &before, buffer: &bank.buffer };
-    let said = of_second(case, &mut second[..bank.length], call);
-    let others = [("second", After { said, before: &before, buffer: &second })];
-    let lent = Hex(&before[..bank.length]);
-    let shown = format_args!("{case} bank of {} bytes {lent} {call:?}", bank.length);
-    report.compare(row, &shown, &engine, &others).then(|| engine.refusal())
+    let mut buffers = [before.clone(), before.clone()];
+    let [second, performed] = &mut buffers;
+    let said = of_second(case, &mut second[..length], call);
+    let mut others = vec![("second", After { said, before: &before, buffer: second })];
+    if let Call::Listed(listed) = call {
+        let answered = engine::perform(case, &mut performed[..length], flat(listed));
+        report.calls.count(&PERFORM, answered.refusal);
+        others.push(("perform", After { said: Said::Answered(answered), before: &before, buffer: performed }));
+        if let Some(table) = &mut bank.table {
+            let said = Said::Answered(as_engine(table.perform(listed)));
+            others.push(("table", After { said, before: &before, buffer: &bank.buffer }));
+        }
+    }
+    let shown = format_args!("{case} bank of {length} bytes {} {call:?}", Hex(&before[..length]));
+    if !report.compare(row, &shown, &engine, &others) {
+        return None;
+    }
+    let (refusal, at) = engine.said.reason();
+    if matches!(call, Call::Fresh) && refusal == 0 {
+        bank.table = Table::fresh(case.count, case.rw, case.ro).ok();
+    }
+    Some(Agreed { refusal, at, before: before[..length].to_vec() })
+}
+
+/// Compares the bank with the plain table, if a fresh was accepted: every byte, then through the engine the numbers of these
+/// entries by read, and every AppSel by the apply of its lane alone.
+pub fn compare_end(report: &mut Report, case: &Case, bank: &Bank, entries: &[usize]) {
+    let Some(mut table) = bank.table.clone() else {
+        return;
+    };
+    let mut lent = bank.lent().to_vec();
+    let hex = Hex(bank.lent());
+    compare_bytes(report, case, &lent, &table);
+    for (set, &entry) in (0..3).flat_map(|set| entries.iter().map(move |entry| (set, entry))) {
+        for (part, lane) in (0..2).flat_map(|part| (1..=8).map(move |lane| (part, lane))) {
+            let call = second::Call::Read { set, entry, part, lane };
+            let answered = engine::read(case, &lent, set, entry, part, lane);
+            let others = [("table", as_engine(table.perform(call)))];
+            report.compare(&END_READ, &format_args!("{case} bank {hex} {call:?}"), &answered, &others);
+        }
+    }
+    for (set, lane) in (0..2).flat_map(|set| (0..8).map(move |lane| (set, lane))) {
+        let call = second::Call::Apply { set, lanes: 1 << lane };
+        let answered = engine::apply(case, &mut lent, set, 1 << lane);
+        let others = [("table", as_engine(table.perform(call)))];
+        report.compare(&END_APPLY, &format_args!("{case} bank {hex} {call:?}"), &answered, &others);
+    }
+    compare_bytes(report, case, &lent, &table);
+}
+
+/// Compares every byte of a bank with the bank that shows the table.
+fn compare_bytes(report: &mut Report, case: &Case, lent: &[u8], table: &Table) {
+    let bank = |buffer| After { said: Said::Answered(Answered::default()), before: &[0; LEAST], buffer };
+    let shown = format_args!("{case} end of a list");
+    report.compare(&END_BANK, &shown, &bank(&lent[..LEAST]), &[("table", bank(&table.bank()))]);
 }

@@ -14,7 +14,7 @@ use crate::report::Report;
 use crate::tally::Row;
 
 /// Every call, in the order of the table that is printed.
-pub const CALLS: [&Row; 17] = [
+pub const CALLS: [&Row; 23] = [
     &load::CALL,
     &entry::CALL,
     &place::CALL,
@@ -31,7 +31,13 @@ pub const CALLS: [&Row; 17] = [
     &bank::PUBLISH,
     &bank::BYTE_WRITE,
     &bank::BYTE_READ,
+    &bank::APPLY,
+    &bank::PERFORM,
+    &bank::UNKNOWN,
     &bank::WEIGHT,
+    &bank::END_BANK,
+    &bank::END_READ,
+    &bank::END_APPLY,
 ];
 
 /// Random place and owner calls on one map.

@@ -1,0 +1,114 @@
+//! What the applies of the lists reached, counted so that a generator that misses its aim fails the run.
+
+use super::aim::{chosen, Aim};
+use crate::calls::bank::Agreed;
+use crate::case::Case;
+use crate::engine;
+use crate::report::Report;
+use crate::tally::Row;
+
+/// An apply on a staged set of an accepted map that is accepted or refused with 13 or 14.
+struct Look<'a> {
+    case: &'a Case<'a>,
+    aim: &'a Aim,
+    agreed: &'a Agreed,
+    set: usize,
+    lanes: u8,
+    /// The chosen lanes by what each does alone: change bytes, lack an AppSel, hold a value that is not accepted.
+    changed: Vec<usize>,
+    lacking: Vec<usize>,
+    bad: Vec<usize>,
+}
+
+impl Look<'_> {
+    fn accepted(&self) -> bool {
+        self.agreed.refusal == 0
+    }
+
+    /// The lanes that the answer is about: those that changed, or all that have the fault that was answered.
+    fn about(&self) -> &[usize] {
+        match self.agreed.refusal {
+            0 => &self.changed,
+            13 => &self.lacking,
+            _ => &self.bad,
+        }
+    }
+
+    /// The lane is named by the refusal, or its bytes changed.
+    fn names(&self, lane: usize) -> bool {
+        if self.accepted() {
+            self.changed.contains(&lane)
+        } else {
+            self.agreed.at == lane
+        }
+    }
+
+    fn app(&self, lane: usize) -> usize {
+        self.agreed.before[768 + 8 * self.set + lane - 1].into()
+    }
+
+    /// An application mask has an app that is above the count.
+    fn above_count(&self, app: usize) -> bool {
+        app > self.case.count && self.aim.targets.iter().any(|target| target.has_app(app))
+    }
+}
+
+/// Name, numbers, and what an apply must be to be counted there, under the number that it answers.
+type Reached = (Row, fn(&Look) -> bool);
+
+const fn reached(name: &'static str, numbers: &'static [usize], test: fn(&Look) -> bool) -> Reached {
+    (Row { name, numbers }, test)
+}
+
+static REACHED: [Reached; 18] = [
+    reached("apply: lane 1", &[0, 13, 14], |look| look.names(1)),
+    reached("apply: lane 2", &[0, 13, 14], |look| look.names(2)),
+    reached("apply: lane 3", &[0, 13, 14], |look| look.names(3)),
+    reached("apply: lane 4", &[0, 13, 14], |look| look.names(4)),
+    reached("apply: lane 5", &[0, 13, 14], |look| look.names(5)),
+    reached("apply: lane 6", &[0, 13, 14], |look| look.names(6)),
+    reached("apply: lane 7", &[0, 13, 14], |look| look.names(7)),
+    reached("apply: lane 8", &[0, 13, 14], |look| look.names(8)),
+    reached("apply: two lanes or more", &[0, 13, 14], |look| look.about().len() > 1),
+    reached("apply: all lanes", &[0, 13], |look| look.agreed.refusal < 14 && look.about().len() == 8),
+    reached("apply: count 1 to 8", &[0, 13, 14], |look| look.case.count <= 8 && !look.about().is_empty()),
+    reached("apply: count 9 to 15", &[0, 13, 14], |look| look.case.count > 8 && !look.about().is_empty()),
+    reached("apply: 14 beside 13", &[13], |look| !look.lacking.is_empty() && !look.bad.is_empty()),
+    reached("apply: 14 in lower lane", &[13], |look| look.bad.first().is_some_and(|&lane| lane < look.agreed.at)),
+    reached("apply: empty mask", &[0], |look| look.lanes == 0),
+    reached("apply: no byte changed", &[0], |look| look.accepted() && look.lanes != 0 && look.changed.is_empty()),
+    // A chosen lane's field is not copied, since its entry's mask lacks the AppSel.
+    reached("apply: a field kept", &[0], |look| {
+        let lacks = |lane| look.aim.targets.iter().any(|target| !target.has_app(look.app(lane)));
+        look.accepted() && chosen(look.lanes).any(lacks)
+    }),
+    // An application mask has bits above the count; with 13, the bit of the named lane's AppSel.
+    reached("apply: bits above count", &[0, 13, 14], |look| match look.agreed.refusal {
+        13 => look.above_count(look.app(look.agreed.at)),
+        _ => (1..=16).any(|app| look.above_count(app)),
+    }),
+];
+
+pub fn rows() -> impl Iterator<Item = &'static Row> {
+    REACHED.iter().map(|(row, _)| row)
+}
+
+/// Counts an apply on a staged set.
+pub fn count(report: &mut Report, case: &Case, aim: &Aim, set: usize, lanes: u8, agreed: &Agreed) {
+    let [changed, lacking, bad] = [(); 3].map(|()| Vec::new());
+    let mut look = Look { case, aim, agreed, set, lanes, changed, lacking, bad };
+    for lane in chosen(lanes) {
+        let mut bank = agreed.before.clone();
+        match engine::apply(case, &mut bank, set, 1 << (lane - 1)).refusal {
+            13 => look.lacking.push(lane),
+            14 => look.bad.push(lane),
+            _ if bank != agreed.before => look.changed.push(lane),
+            _ => {}
+        }
+    }
+    for (row, test) in &REACHED {
+        if test(&look) {
+            report.calls.count(row, agreed.refusal);
+        }
+    }
+}

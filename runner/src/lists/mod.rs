@@ -1,0 +1,113 @@
+//! Random lists of calls, each on one map and one bank: accepted and refused maps, fresh and foreign banks.
+
+mod aim;
+mod applies;
+pub mod whole;
+
+use second::Call::{Apply, ByteRead, ByteWrite, Publish, Write};
+
+use crate::any_map;
+use crate::calls::bank::{self, Bank, Call};
+use crate::case::Case;
+use crate::engine;
+use crate::fixed;
+use crate::random::Random;
+use crate::report::Report;
+use crate::shape::TABLE;
+use crate::tally::Row;
+use crate::valid;
+use aim::Aim;
+
+/// Lists that are compared.
+const LISTS: u64 = 8_000;
+
+/// The most calls of a list, and of one whose every call is refused.
+const LONGEST: usize = 200;
+const REFUSED: usize = 40;
+
+/// Values accepted and not, by the ID that they were for.
+static VALUES_BY_ID: [Row; 11] = [
+    Row { name: "write: 02h", numbers: &[0, 12] },
+    Row { name: "write: 03h", numbers: &[0, 12] },
+    Row { name: "write: 04h", numbers: &[0, 12] },
+    Row { name: "write: 05h", numbers: &[0, 12] },
+    Row { name: "write: 06h", numbers: &[0, 12] },
+    Row { name: "write: 07h", numbers: &[0, 12] },
+    Row { name: "write: 08h", numbers: &[0, 12] },
+    Row { name: "write: 0Fh", numbers: &[0, 12] },
+    Row { name: "write: 10h", numbers: &[0, 12] },
+    Row { name: "publish: 11h", numbers: &[0, 12] },
+    Row { name: "publish: 12h", numbers: &[0, 12] },
+];
+
+/// Accepted byte calls, by what the byte holds: every byte is a gap whole or not at all.
+static BYTES_BY_KIND: [Row; 4] = [
+    Row { name: "byte write: fields", numbers: &[0] },
+    Row { name: "byte write: gap", numbers: &[0] },
+    Row { name: "byte read: fields", numbers: &[0] },
+    Row { name: "byte read: gap", numbers: &[0] },
+];
+
+/// Accepted weights, by the step of their entry.
+static WEIGHTS_BY_STEP: [Row; 4] = [
+    Row { name: "weight: step 0", numbers: &[0] },
+    Row { name: "weight: step 1", numbers: &[0] },
+    Row { name: "weight: step 2", numbers: &[0] },
+    Row { name: "weight: step 3", numbers: &[0] },
+];
+
+/// The rows that lists are counted in, beside those of the calls.
+pub fn rows() -> Vec<&'static Row> {
+    let rows = VALUES_BY_ID.iter().chain(&BYTES_BY_KIND).chain(&WEIGHTS_BY_STEP);
+    rows.chain(applies::rows()).collect()
+}
+
+pub fn compare(report: &mut Report) {
+    let fixed = fixed::maps();
+    for seed in 0..LISTS {
+        let random = Random::new(seed);
+        let map = match random.below(16) {
+            0 => fixed[random.below(fixed.len())].clone(),
+            1..=6 => any_map(&random),
+            _ => valid::valid(&random).flat(),
+        };
+        compare_list(report, &map.case(), &random);
+    }
+}
+
+/// Compares the calls of one list, up to the first on which the programs differ.
+fn compare_list(report: &mut Report, case: &Case, random: &Random) {
+    let mut bank = Bank::new(random);
+    let aim = Aim::new(case);
+    let accepted = aim.accepted && bank.accepted();
+    let fresh_first = random.once_in(2).then_some(Call::Fresh);
+    let drawn = aim.calls(random, random.within(1, if accepted { LONGEST } else { REFUSED }));
+    for call in fresh_first.into_iter().chain(drawn) {
+        let Some(agreed) = bank::compare(report, case, &mut bank, call) else {
+            return;
+        };
+        match (call, agreed.refusal) {
+            (Call::Listed(Write { entry, .. } | Publish { entry, .. }), refusal @ (0 | 12)) => {
+                let row = TABLE.concat().iter().position(|&id| id == aim.ids[entry]);
+                report.calls.count(&VALUES_BY_ID[row.expect("an ID of the table")], refusal);
+            }
+            (Call::Listed(ByteWrite { set, offset, .. }), 0) => {
+                report.calls.count(&BYTES_BY_KIND[gap(case, set, offset)], 0);
+            }
+            (Call::Listed(ByteRead { set, offset }), 0) => {
+                report.calls.count(&BYTES_BY_KIND[2 + gap(case, set, offset)], 0);
+            }
+            (Call::Listed(Apply { set, lanes }), 0 | 13 | 14) => {
+                applies::count(report, case, &aim, set, lanes, &agreed);
+            }
+            (Call::Weight { entry, .. }, 0) => report.calls.count(&WEIGHTS_BY_STEP[aim.step(case, entry)], 0),
+            _ => {}
+        }
+    }
+    bank::compare_end(report, case, &bank, &aim.fields.concat());
+}
+
+/// 1 if the byte at an offset of a set is a gap, 0 if it holds fields.
+fn gap(case: &Case, set: usize, offset: usize) -> usize {
+    engine::owner(case.count, case.rw, case.ro, set, offset, 0).gap
+}
