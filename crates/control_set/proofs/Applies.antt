@@ -1,7 +1,7 @@
 -- Apply: what its passes find is what the rules say of the map, and the ways out of the call.
 use mathlib.Core.Path.{_≡_, refl, sym, ap, ap₂, _∙_}
 use mathlib.Core.Logic.{_≢_}
-use mathlib.Core.Bool.{Bool, true, false, _&&_, not, cond}
+use mathlib.Core.Bool.{Bool, true, false, _&&_, _||_, not, cond}
 use mathlib.Core.List.{List, _++_}
 use Prim.Native.Nat.{ℕ, suc, _<_}
 use lib.ListN.{length, getD}
@@ -17,7 +17,7 @@ use Rattle.rules.specs.Accept.{accepts, fromBits}
 use Rattle.rules.specs.Refuse.{firstOf, bankOrder, exists, misdirected, unaccepted, judge}
 use Rattle.rules.specs.Bank.{Bank, putField, numberIn, bankLacksApp, bankCopies, bankHoldsBad, bankPlan, bankDoes, bankStep, loop, copyField, applyBank}
 use Rattle.rules.specs.Demands.{Accepted}
-use Rattle.rules.specs.Numbers.{any}
+use Rattle.rules.specs.Numbers.{bitOf, any}
 use Rattle.rules.proofs.Any.{any-ext}
 use Rattle.rules.proofs.Steps.{step-refused, step-done, judge-ok}
 use Rattle.rules.proofs.Orders.{bank-order-accepted}
@@ -25,11 +25,11 @@ use Rattle.rules.proofs.PlaceOwner.{both-ways}
 use Rattle.rules.proofs.EntryHeads.{in-rw}
 use Rattle.control_set.specs.declared.plan.Chosen.{Chosen}
 use Rattle.control_set.specs.Field.{bitsAt}
-use Rattle.control_set.specs.Values.{valuesNumber, signedIn, allowedBy}
+use Rattle.control_set.specs.Values.{rowNumber, widthIn, signedIn, listedBy, allowedBy}
 use Rattle.control_set.specs.Gate.{Opened}
 use Rattle.control_set.specs.Plan.{Asked, Listed, fieldsOf, copiesBy, lacksBy, badAt, badIn, badAmong, copyLane, copyPart, copyEntry, copyAmong, Least}
-use Rattle.control_set.proofs.Spots.{bits-field, with-field, number-field}
-use Rattle.control_set.proofs.Table.{values-signed, values-accepts, accepts-entry}
+use Rattle.control_set.proofs.Spots.{bits-at-lt, bits-field, with-field, number-field}
+use Rattle.control_set.proofs.Table.{row-width, values-signed, values-accepts, accepts-entry, bits-allowed}
 use Rattle.control_set.proofs.Ways.{opened-accepted, count-top, call-10, call-11}
 use Rattle.control_set.proofs.Leasts.{least-ext, lowest-refuses, lowest-passes}
 use Rattle.control_set.proofs.Copies.{loop-ext}
@@ -67,19 +67,31 @@ module _ (count : ℕ) (first last : List ℕ) (s lanes : ℕ) (b : Bank) where
     copies-is i = ap₂ (λ (n : ℕ) (y : Entry). copiesBy (asked n) (y .mask) b i) (sym (map-count count first last)) is
 
     number-is : (p i : ℕ)
-        → fromBits (signedIn (valuesNumber (x .id))) (widthOf x) (bitsAt b s (x .offset) p (widthOf x) i)
+        → fromBits (signedIn (rowNumber (x .id))) (widthOf x) (bitsAt b s (x .offset) p (widthOf x) i)
         ≡ numberIn (mapOf count first last) b s e p i
     unfolding signedOf
-    number-is p i = number-field m b s e p i x is (widthOf x) refl (signedIn (valuesNumber (x .id))) (values-signed (x .id))
+    number-is p i = number-field m b s e p i x is (widthOf x) refl (signedIn (rowNumber (x .id))) (values-signed (x .id))
 
-    accepts-is : (v : ℤ) → allowedBy (valuesNumber (x .id)) (x .codes) v ≡ accepts (entry (mapOf count first last) e) v
+    accepts-is : (v : ℤ) → allowedBy (rowNumber (x .id)) (x .codes) v ≡ accepts (entry (mapOf count first last) e) v
     accepts-is v = values-accepts (x .id) (x .codes) v ∙ accepts-entry x v ∙ ap (λ (y : Entry). accepts y v) is
+
+    width-is : widthIn (rowNumber (x .id)) ≡ widthOf x
+    unfolding widthOf
+    width-is = row-width (x .id)
+
+    fine-is : (p i : ℕ)
+        → (eqb (widthOf x) 8 || bitOf (listedBy (rowNumber (x .id)) (x .codes)) (bitsAt b s (x .offset) p (widthOf x) i))
+        ≡ accepts (entry (mapOf count first last) e) (numberIn (mapOf count first last) b s e p i)
+    fine-is p i =
+        sym (rw width-is at (bits-allowed (x .id) (x .codes) (bitsAt b s (x .offset) p (widthOf x) i) (rw width-is (bits-at-lt b s (x .offset) p (widthOf x) i))))
+        ∙ ap (allowedBy (rowNumber (x .id)) (x .codes)) (number-is p i)
+        ∙ accepts-is _
 
     bad-is : (p i : ℕ)
         → badAt (asked count) (fieldsOf (getD (rwEntries count first) e nothing)) b p i
         ≡ (bankCopies (mapOf count first last) b s lanes e i && not (accepts (entry (mapOf count first last) e) (numberIn (mapOf count first last) b s e p i)))
     unfolding badAt
-    bad-is p i = ap₂ (λ (c v : Bool). c && not v) (copies-is i) (ap (allowedBy (valuesNumber (x .id)) (x .codes)) (number-is p i) ∙ accepts-is _)
+    bad-is p i = ap₂ (λ (c v : Bool). c && not v) (copies-is i) (fine-is p i)
 
     any-bad-is : (i : ℕ)
         → badIn (asked count) (fieldsOf (getD (rwEntries count first) e nothing)) b i

@@ -2,7 +2,7 @@
 use mathlib.Core.Path.{_≡_, refl, ap, _∙_}
 use mathlib.Core.Bool.{Bool, true, false, _&&_, cond}
 use mathlib.Core.List.{List}
-use Prim.Native.Nat.{ℕ, zero, suc, _+_, _-_, _≤_, _<_}
+use Prim.Native.Nat.{_*_, ℕ, zero, suc, _+_, _-_, _≤_, _<_}
 use native.Mathlib.Numerals.{add-one}
 use native.Mathlib.Omega.{arith}
 use lib.Arith.{digits-lt}
@@ -44,6 +44,9 @@ pub merge-mid :
 merge-mid a k j l hj h t w v =
     set-mid-at a k j l (merge (getD (midOf a k l) j 0) t w v) (simp (length-take, length-drop) (omega arith))
     ∙ ap (λ (x : ℕ). set l (a + j) (merge x t w v)) (getD-take k (drop a l) j 0 hj ∙ getD-drop a l j 0)
+
+pub set-mid : (a k j : ℕ) (l : List ℕ) → j < k → a + k ≤ length l → (v : ℕ) → putMid a k l (set (midOf a k l) j v) ≡ set l (a + j) v
+set-mid a k j l hj h v = set-mid-at a k j l v (simp (length-take, length-drop) (omega arith))
 
 -- only the active set, bytes 512 to 767, may differ
 pub record Kept (b b′ : Bank) : Type 0 where
@@ -156,3 +159,20 @@ module _ {c : Chosen} {b₀ : Bank} (a : Asked c b₀) {f : Fields} (g : Spread 
       → Upto (λ i. copyEntry c (h i) b₀) (n + 1) b₀ b′
   entry-turn h n e i q =
       turn (λ i. copyEntry c (h i) b₀) n b₀ b b′ i (rw e (entry-kept c g b₀ b)) (q ∙ rw e (entry-same a (i .kept) g b))
+
+-- one byte of an entry's fields
+module _ (s : ℕ) (hs : s < 2) {f : Fields} (g : Spread f) {b₀ b b′ : Bank} where
+  pub byte-turn :
+      (k : ℕ)
+      → k < f .parts * f .width
+      → Upto (λ j. λ x. set x (512 + (f .offset + j)) (getD b₀ (256 * s + (f .offset + j)) 0)) k b₀ b
+      → b′ ≡ set b (512 + (f .offset + k)) (getD b (256 * s + (f .offset + k)) 0)
+      → Upto (λ j. λ x. set x (512 + (f .offset + j)) (getD b₀ (256 * s + (f .offset + j)) 0)) (k + 1) b₀ b′
+  byte-turn k h i q =
+      turn (λ j. λ x. set x (512 + (f .offset + j)) (getD b₀ (256 * s + (f .offset + j)) 0)) k b₀ b b′ i
+      (record {
+        size = length-set b _ _;
+        low = λ n u. getD-set-other b (512 + (f .offset + k)) n _ 0 (λ e. omega arith);
+        high = λ n u. getD-set-other b (512 + (f .offset + k)) n _ 0 (λ e. omega (arith, g .inside));
+      })
+      (q ∙ ap (set b (512 + (f .offset + k))) (i .kept .low (256 * s + (f .offset + k)) (omega (arith, g .inside))))

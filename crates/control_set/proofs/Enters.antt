@@ -8,7 +8,6 @@ use lib.IntN.{ℤ}
 use lib.ListN.{length}
 use lib.Dec.{T, ltb, eqb, ltb→lt, eqb→eq}
 use borrow.Author.Tests.{ltb-false, lt-ltb, le-ltb}
-use Rattle.rules.specs.declared.Entry.{Entry}
 use Rattle.rules.specs.declared.Call.{Call}
 use Rattle.rules.specs.declared.Answer.the-variants.{Number as number, Refused as refused}
 use Rattle.rules.specs.declared.Refusal.{Refusal}
@@ -18,10 +17,10 @@ use Rattle.rules.specs.declared.Loaded.the-variants.{Accepted as accepted, Refu
 use Rattle.rules.specs.Parameter.{rowOf}
 use Rattle.rules.specs.Load.{Map, sized, loadOf, mapOf}
 use Rattle.rules.specs.Place.{entry, partsOf, widthOf, signedOf, isSet, isStaged, isRW, isLane, heldBy, hasField}
-use Rattle.rules.specs.Accept.{accepts, fromBits, weightOf}
+use Rattle.rules.specs.Accept.{accepts, toBits, fromBits, weightOf}
 use Rattle.rules.specs.Layout.{bankSize}
 use Rattle.rules.specs.Refuse.{Verdict, refuses, refuseIf, firstOf, bankOrder, exists, misdirected}
-use Rattle.rules.specs.Bank.{Bank, bankStep}
+use Rattle.rules.specs.Bank.{Bank, numberIn, withNumber, bankStep}
 use Rattle.rules.specs.Beside.{entryVerdict, isWeighed, weightCall}
 use Rattle.rules.specs.Demands.{Accepted}
 use Rattle.rules.proofs.Tests.{and₂, is-true, not-not, or-no, from-true, and-no}
@@ -35,10 +34,10 @@ use Rattle.descriptor.specs.declared.Found.the-variants.{In as isIn, Refused as
 use Rattle.descriptor.specs.declared.Shape.{Shape}
 use Rattle.descriptor.specs.Find.{foundOf, shapeOf}
 use Rattle.descriptor.proofs.Finds.{found-refused, found-in}
-use Rattle.control_set.specs.Field.{Spot, InBits, bitsAt}
+use Rattle.control_set.specs.Field.{Spot, InBits, bitsAt, withBits}
 use Rattle.control_set.specs.Values.{acceptsBy}
 use Rattle.control_set.specs.Gate.{Opened, Entered, EntryGated, refusedOf}
-use Rattle.control_set.proofs.Spots.{spot-room, spot-field, number-field}
+use Rattle.control_set.proofs.Spots.{spot-room, spot-field, number-field, with-number}
 use Rattle.control_set.proofs.Signs.{accepted-bits}
 use Rattle.control_set.proofs.Table.{accepts-entry}
 
@@ -69,13 +68,23 @@ module _ (count : ℕ) (first last : List ℕ) (size e : ℕ) (h : sized count f
           bank-order-accepted count first last ok size rest l ∙ out (ltb e (length (m .entries))) refl (sym (order-accepted count first last ok _) ∙ v)
 
   pub found-gated : (f : Found) → f ≡ foundOf count first last e → EntryGated count first last size e f
-  found-gated (isIn inRO x) q =
-      let z = found-in count first last e inRO x (sym q) in
-      record { size-is = l; ok = z .ok; there = z .there; side = sym (z .side); is = z .is }
+  found-gated (isIn inRO i o c s) q =
+      let z = found-in count first last e inRO i o c s (sym q) in
+      record {
+        size-is = l;
+        ok = z .ok;
+        there = z .there;
+        side = sym (z .side);
+        id-is = z .id-is;
+        offset-is = z .offset-is;
+        codes-is = z .codes-is;
+        step-is = z .step-is;
+      }
   found-gated (notFound r) q = verdict-gated r (found-refused count first last e r (sym q))
 
 -- the rules' tests of a call on a field, in the numbers of the entry that is found and of its ID's shape
-module _ (count : ℕ) (first last : List ℕ) (b : Bank) {e : ℕ} {inRO : Bool} {x : Entry} (t : Entered count first last (length b) e inRO x) where
+module _ (count : ℕ) (first last : List ℕ) (b : Bank) {e : ℕ} {inRO : Bool} {id offset codes step : ℕ}
+    (t : Entered count first last (length b) e inRO id offset codes step) where
   abbrev n : Map
   n = mapOf count first last
 
@@ -85,17 +94,17 @@ module _ (count : ℕ) (first last : List ℕ) (b : Bank) {e : ℕ} {inRO : Bool
   pub entered-opened : Opened count first last (length b) (t .ok .rwCount) (t .ok .roCount) (t .ok .staged) (t .ok .active)
   entered-opened = record { size-is = t .size-is; loads = t .ok .loads }
 
-  pub value-tested : (v : ℤ) → not (accepts (entry (mapOf count first last) e) v) ≡ not (acceptsBy (x .id) (x .codes) v)
-  value-tested v = rw (t .is) (ap not (sym (accepts-entry x v)))
+  pub value-tested : (v : ℤ) → not (accepts (entry (mapOf count first last) e) v) ≡ not (acceptsBy id codes v)
+  value-tested v = rw (← t .id-is, ← t .codes-is) (ap not (sym (accepts-entry (entry n e) v)))
 
-  module _ {z : Shape} (q : z ≡ shapeOf (x .id)) where
+  module _ {z : Shape} (q : z ≡ shapeOf id) where
     parts-is : z .parts ≡ partsOf (entry (mapOf count first last) e)
     unfolding partsOf
-    parts-is = rw (q, t .is) refl
+    parts-is = rw (q, ← t .id-is) refl
 
-    pub width-is : z .width ≡ widthOf x
+    width-is : z .width ≡ widthOf (entry (mapOf count first last) e)
     unfolding widthOf
-    width-is = rw q refl
+    width-is = rw (q, ← t .id-is) refl
 
     has : (p i : ℕ) → hasField (mapOf count first last) e p i ≡ (ltb p (z .parts) && isLane i)
     has p i = rw (lt-ltb e (length (n .entries)) (t .there), parts-is) refl
@@ -117,8 +126,21 @@ module _ (count : ℕ) (first last : List ℕ) (b : Bank) {e : ℕ} {inRO : Bool
     field-there : (s p i : ℕ) → s < 3 → e < heldBy (mapOf count first last) s → (ltb p (z .parts) && isLane i) ≡ true → Field (mapOf count first last) s e p i
     field-there s p i l h k = field-of n s e p i l h (from-true (has p i ∙ k))
 
-    pub spot-there : {s p i : ℕ} → Field (mapOf count first last) s e p i → Spot b s (x .offset) p (z .width) i
-    spot-there {s} {p} {i} f = spot-field n b s e p i x (sym (t .is)) (z .width) width-is good f (t .size-is)
+    pub spot-there : {s p i : ℕ} → Field (mapOf count first last) s e p i → Spot b s offset p (z .width) i
+    spot-there {s} {p} {i} f = rw (← t .offset-is) (spot-field n b s e p i (entry n e) refl (z .width) width-is good f (t .size-is))
+
+    -- its number, and the bank with a number in it
+    pub number-there :
+        (s p i : ℕ) (g : Bool)
+        → g ≡ rowOf id .signed
+        → fromBits g (z .width) (bitsAt b s offset p (z .width) i) ≡ numberIn (mapOf count first last) b s e p i
+    unfolding signedOf
+    number-there s p i g h = rw (← t .offset-is) (number-field n b s e p i (entry n e) refl (z .width) width-is g (h ∙ ap (λ j. rowOf j .signed) (sym (t .id-is))))
+
+    pub stored-there :
+        (s p i : ℕ) (v : ℤ)
+        → withBits b s offset p (z .width) i (toBits (z .width) v) ≡ withNumber (mapOf count first last) b s e p i v
+    stored-there s p i v = rw (← t .offset-is) (with-number n b s e p i (entry n e) refl (z .width) width-is v)
 
     is-rw : inRO ≡ false → T (isRW (mapOf count first last) e)
     is-rw h = not-not (isRW n e) (from-true (ap not (sym (t .side) ∙ h)))
@@ -151,17 +173,18 @@ module _ (count : ℕ) (first last : List ℕ) (b : Bank) {e : ℕ} {inRO : Bool
         {s p i : ℕ}
         → Field (mapOf count first last) s e p i
         → (v : ℤ)
-        → acceptsBy (x .id) (x .codes) v ≡ true
+        → acceptsBy id codes v ≡ true
         → (0 < z .width) × (z .width ≤ 8) × InBits (z .width) v
     value-bits f v h =
         let r = spot-room (spot-there f) in (
           r .some,
           omega (arith, r .room),
-          rw width-is (accepted-bits x v (rw (← width-is) (r .some)) (from-true (sym (accepts-entry x v) ∙ h))),
+          rw width-is (accepted-bits (entry n e) v (rw (← width-is) (r .some)) (from-true (sym (accepts-entry (entry n e) v) ∙ rw (t .id-is, t .codes-is) h))),
         )
 
 -- 11
-module _ (count : ℕ) (first last : List ℕ) {size e : ℕ} {inRO : Bool} {x : Entry} (t : Entered count first last size e inRO x) where
+module _ (count : ℕ) (first last : List ℕ) {size e : ℕ} {inRO : Bool} {id offset codes step : ℕ}
+    (t : Entered count first last size e inRO id offset codes step) where
   pub write-directed : (s p i : ℕ) (v : ℤ) → misdirected (mapOf count first last) (Call.Write s e p i v) ≡ (eqb s 2 || inRO)
   unfolding misdirected
   write-directed s p i v = rw (t .side) refl
@@ -216,39 +239,38 @@ module _ (count : ℕ) (first last : List ℕ) (b : Bank) (e i : ℕ) where
       let k : EntryGated count first last (length b) e (notFound r) = rw q at h in
       rw (q, k (refuseIf (not (isWeighed (mapOf count first last) e i)) (plain 10) ∷ []) λ l. rw (le-ltb e (length (mapOf count first last .entries)) l) refl) refl
 
-  module _ {inRO : Bool} {x : Entry} (t : Entered count first last (length b) e inRO x) where
+  module _ {inRO : Bool} {id offset codes step : ℕ} (t : Entered count first last (length b) e inRO id offset codes step) where
     order : bankOrder count first last (length b) (refuseIf (not (isWeighed (mapOf count first last) e i)) (plain 10) ∷ [])
-        ≡ firstOf (refuseIf (not (eqb (x .id) 0x12 && isLane i)) (plain 10) ∷ [])
+        ≡ firstOf (refuseIf (not (eqb id 0x12 && isLane i)) (plain 10) ∷ [])
     order =
         bank-order-accepted count first last (t .ok) (length b) _ (t .size-is)
-        ∙ rw (lt-ltb e (length (mapOf count first last .entries)) (t .there), t .is) refl
+        ∙ rw (lt-ltb e (length (mapOf count first last .entries)) (t .there), t .id-is) refl
 
-    pub weight-10 : (eqb (x .id) 0x12 && isLane i) ≡ false → refused (plain 10) ≡ weightCall count first last b e i
+    pub weight-10 : (eqb id 0x12 && isLane i) ≡ false → refused (plain 10) ≡ weightCall count first last b e i
     unfolding weightCall
     weight-10 h = rw (order, h) refl
 
-    module _ (h : (eqb (x .id) 0x12 && isLane i) ≡ true) where
-      is-12 : x .id ≡ 0x12
-      is-12 = eqb→eq (x .id) 0x12 (and₂ (eqb (x .id) 0x12) (isLane i) (from-true h) .0)
+    module _ (h : (eqb id 0x12 && isLane i) ≡ true) where
+      is-12 : id ≡ 0x12
+      is-12 = eqb→eq id 0x12 (and₂ (eqb id 0x12) (isLane i) (from-true h) .0)
 
       shape : Shape
       shape = record { parts = 1; width = 8 }
 
-      shape-is : shape ≡ shapeOf (x .id)
+      shape-is : shape ≡ shapeOf id
       unfolding rowOf shape
       shape-is = rw is-12 refl
 
       field : Field (mapOf count first last) 2 e 0 i
       unfolding shape
-      field = publish-there count first last b t shape-is 0 i (is-true _ (and₂ (eqb (x .id) 0x12) (isLane i) (from-true h) .1))
+      field = publish-there count first last b t shape-is 0 i (is-true _ (and₂ (eqb id 0x12) (isLane i) (from-true h) .1))
 
-      pub weight-spot : Spot b 2 (x .offset) 0 8 i
+      pub weight-spot : Spot b 2 offset 0 8 i
       unfolding shape
       weight-spot = spot-there count first last b t shape-is field
 
-      pub weight-is : number (weightOf (x .step) (fromBits true 8 (bitsAt b 2 (x .offset) 0 8 i))) ≡ weightCall count first last b e i
-      unfolding weightCall shape signedOf rowOf
+      pub weight-is : number (weightOf step (fromBits true 8 (bitsAt b 2 offset 0 8 i))) ≡ weightCall count first last b e i
+      unfolding weightCall shape rowOf
       weight-is =
-          rw (order, h)
-          (ap (λ v. number (weightOf (x .step) v)) (number-field (mapOf count first last) b 2 e 0 i x (sym (t .is)) 8 (width-is count first last b t shape-is) true (rw is-12 refl))
-          ∙ rw (t .is) refl)
+          rw (order, h, ← t .step-is)
+          (ap (λ v. number (weightOf (entry (mapOf count first last) e .step) v)) (number-there count first last b t shape-is 2 0 i true (rw is-12 refl)))

@@ -13,14 +13,12 @@ use Rattle.rules.specs.Descriptor.{isApp}
 use Rattle.rules.specs.Numbers.{any, lowest}
 use Rattle.rules.specs.Refuse.{passes, refuses, atLowest}
 use Rattle.rules.proofs.Tests.{and₂, from-true}
-use Rattle.control_set.specs.Plan.{Least}
+use Rattle.control_set.specs.Plan.{Least, Clear}
 
 pub app-range : (count a : ℕ) → isApp count a ≡ true → (1 ≤ a) × (a ≤ count)
 app-range count a h = let (x, y) = and₂ (leb 1 a) (leb a count) (from-true h) in (leb→le 1 a x, leb→le a count y)
 
 -- none among the lanes below one
-abbrev pub Clear : ℕ → (ℕ → Bool) → Type 0
-Clear k f = (i : ℕ) → 1 ≤ i → i < k → f i ≡ false
 
 pub clear-none : (f : ℕ → Bool) → Clear 1 f
 clear-none f i l u = absurd (omega arith)

@@ -1,5 +1,6 @@
 -- Laws that the functions' proofs cite.
 pub mod Masks
+pub mod Bits
 pub mod Spots
 pub mod Signs
 pub mod Values
@@ -12,3 +13,5 @@ pub mod Copies
 pub mod Passed
 pub mod Applies
 pub mod Performed
+pub mod Whole
+pub mod Wanted

@@ -4,9 +4,9 @@ use mathlib.Core.List.{List}
 use Prim.Native.Nat.{ℕ, suc, _+_, _≤_, _<_}
 use native.Mathlib.Numerals.{add-one}
 use native.Mathlib.Omega.{arith}
-use borrow.Author.Tests.{le-ltb}
 use lib.ListN.{length, getD, take}
 use Rattle.rules.specs.declared.Entry.{Entry}
+use Rattle.rules.specs.Descriptor.{maskBytes, entryAt}
 use Rattle.rules.specs.Load.{rwEntries, total, mapOf}
 use Rattle.rules.specs.Place.{nothing}
 use Rattle.rules.specs.Demands.{lengths}
@@ -14,7 +14,7 @@ use Rattle.rules.proofs.Good.{GoodEntry, rw-held, entry-good, entry-ends}
 use Rattle.rules.proofs.Walks.{map-good}
 use Rattle.rules.proofs.PlaceOwner.{both-ways}
 use Rattle.rules.proofs.EntryHeads.{strings-short, lengths-next, lengths-most, total-next, in-rw, rw-offset}
-use Rattle.descriptor.specs.Wide.{entryFrom}
+use Rattle.descriptor.specs.Wide.{standingAt}
 use Rattle.control_set.specs.Plan.{Listed, Spread, fieldsOf}
 
 pub record Passed (l : List Entry) (n at sum : ℕ) : Type 0 where
@@ -67,10 +67,8 @@ module _ {count : ℕ} {first : List ℕ} {all : ℕ} (d : Listed count first al
     omega (arith, sum-is, ends),
   )
 
-  pub passed-entry : entryFrom count first at sum ≡ getD (rwEntries count first) n nothing
-  passed-entry =
-      rw (le-ltb 120 at (omega (arith, passed-small .0)), ← at-is, ← sum-is)
-      (sym (both-ways count first (d .last) (d .ok) .rw-fills .says n h))
+  pub passed-entry : entryAt (maskBytes count) first (standingAt at sum) ≡ getD (rwEntries count first) n nothing
+  passed-entry = rw (← at-is, ← sum-is) (sym (both-ways count first (d .last) (d .ok) .rw-fills .says n h))
 
   pub passed-next : Passed (rwEntries count first) (n + 1) (at + e .length) (sum + e .memory)
   passed-next =

@@ -1,22 +1,18 @@
--- What the code of `accept` computes: a value in a code mask, and in two ranges.
-use mathlib.Core.Path.{_≡_, refl, ap}
-use mathlib.Core.Bool.{Bool, true, false, _&&_, _||_}
-use mathlib.Core.List.{[], _∷_}
-use Prim.Native.Nat.{ℕ, zero, suc, _-_, _/_, _^_, _≤_, _<_}
+-- What the code of `accept` computes: a value in a code mask.
+use mathlib.Core.Path.{_≡_, refl}
+use mathlib.Core.Bool.{true, false, _||_}
+use Prim.Native.Nat.{ℕ, _-_, _/_, _^_, _≤_, _<_}
 use native.Mathlib.Nat.{div-eq-of-lt}
 use native.Mathlib.Omega.{arith}
 use borrow.Author.Tests.{ltb-true, ltb-false, le-ltb}
 use lib.IntN.{ℤ, pos, negsuc, natAbs}
-use lib.Signed.{ltZ, leZ, nonNeg}
+use lib.Signed.{ltZ, nonNeg}
 use lib.Dec.{T, ltb, eqb}
 use lib.Pow.{pow-mono}
 use lib.Bits.{bitAnd, and-mask}
-use mir.Syntax.{w64}
-use mir.Val.{SFits}
-use Rattle.rules.specs.Parameter.{Range, codes}
-use Rattle.rules.specs.Accept.{within, inCodes}
-use Rattle.rules.proofs.Tests.{or-no, by-test}
-use Rattle.control_set.specs.Values.{edge}
+use Rattle.rules.specs.Parameter.{codes}
+use Rattle.rules.specs.Accept.{inCodes}
+use Rattle.rules.proofs.Tests.{or-no}
 
 -- no mask of 64 bits has a negative value or one above 63
 pub codes-outside : (mask : ℕ) (v : ℤ) → mask < 2 ^ 64 → (ltZ v (pos 0) || ltZ (pos 63) v) ≡ true → false ≡ inCodes codes mask v
@@ -40,21 +36,3 @@ pub codes-bit : (mask : ℕ) (v : ℤ) → T (nonNeg v) → eqb (bitAnd (mask / 
 unfolding inCodes
 codes-bit mask (pos n) h = rw (and-mask (mask / 2 ^ n) 1)
 codes-bit mask (negsuc n) h = absurd h
-
--- a difference of two bytes fits
-pub edge-fits : (a b : ℕ) → a < 256 → b < 256 → SFits w64 (edge a b)
-edge-fits a zero ha hb = record { sfits = omega arith }
-edge-fits a (suc b) ha hb =
-    by-test (λ z. SFits w64 z) (ltb a (suc b)) (negsuc (suc b - suc a)) (pos (a - suc b))
-    (λ _. record { sfits = omega arith })
-    (λ _. record { sfits = omega arith })
-
--- a value in one of two ranges
-pub within-two :
-    (x y : Range) (v : ℤ) → ((leZ (x .low) v && leZ v (x .high)) || (leZ (y .low) v && leZ v (y .high))) ≡ within (x ∷ y ∷ []) v
-unfolding within
-within-two x y v = ap (λ (t : Bool). (leZ (x .low) v && leZ v (x .high)) || t) (or-false (leZ (y .low) v && leZ v (y .high)))
-  where
-    or-false : (t : Bool) → t ≡ (t || false)
-    or-false true = refl
-    or-false false = refl

@@ -1,15 +1,16 @@
 -- Apply in an entry's numbers: which lanes it copies, which it finds bad, and the copy, field by field.
 use mathlib.Core.Path.{_≡_}
-use mathlib.Core.Bool.{Bool, true, false, _&&_, not, cond}
+use mathlib.Core.Bool.{Bool, true, false, _&&_, _||_, not, cond}
 use mathlib.Core.List.{List}
-use Prim.Native.Nat.{ℕ, suc, _+_, _*_, _≤_, _<_}
-use lib.ListN.{length, getD}
+use Prim.Native.Nat.{ℕ, suc, _+_, _-_, _*_, _%_, _^_, _≤_, _<_}
+use lib.Bits.{bitOr}
+use lib.Dec.{eqb}
+use lib.ListN.{length, getD, set}
 use Rattle.rules.specs.declared.Entry.{Entry}
-use Rattle.rules.specs.Descriptor.{isApp, hasApp}
-use Rattle.rules.specs.Numbers.{any}
+use Rattle.rules.specs.Descriptor.{isApp, hasApp, highFirst}
+use Rattle.rules.specs.Numbers.{bitOf, any}
 use Rattle.rules.specs.Load.{mapOf, rwEntries}
 use Rattle.rules.specs.Place.{nothing, partsOf, widthOf}
-use Rattle.rules.specs.Accept.{fromBits}
 use Rattle.rules.specs.Layout.{bankSize}
 use Rattle.rules.specs.Refuse.{chooses}
 use Rattle.rules.specs.Bank.{Bank, appSelIn, loop}
@@ -18,7 +19,7 @@ use Rattle.rules.proofs.Lanes.{Width}
 use Rattle.control_set.specs.declared.plan.Chosen.{Chosen}
 use Rattle.control_set.specs.declared.plan.Fields.{Fields}
 use Rattle.control_set.specs.Field.{bitsAt, withBits}
-use Rattle.control_set.specs.Values.{valuesNumber, signedIn, allowedBy}
+use Rattle.control_set.specs.Values.{rowNumber, listedBy}
 
 -- a staged set, and a bank for it
 pub record Asked (c : Chosen) (b : Bank) : Type 0 where
@@ -37,15 +38,18 @@ pub record Spread (f : Fields) : Type 0 where
   pub whole : 0 < f .parts → Width (f .width)
   pub inside : f .offset + f .parts * f .width ≤ 256
 
+-- the code mask by the number of its column
+unfoldable pub codesFrom : ℕ → List ℕ → ℕ → ℕ
+codesFrom column s at = cond (eqb column 0) 0 (cond (eqb column 1) (highFirst s at 2) (highFirst s (at + 1) 2))
+
 abbrev pub fieldsOf : Entry → Fields
 fieldsOf e =
     record {
       mask = e .mask;
-      codes = e .codes;
+      listed = listedBy (rowNumber (e .id)) (e .codes);
       offset = e .offset;
       parts = partsOf e;
       width = widthOf e;
-      values = valuesNumber (e .id);
     }
 
 -- k is the lowest lane below `top` at which f is true; `top` where there is none
@@ -55,6 +59,10 @@ pub record Least (top k : ℕ) (f : ℕ → Bool) : Type 0 where
   pub below : (i : ℕ) → 1 ≤ i → i < k → f i ≡ false
   pub hit : k < top → f k ≡ true
 
+-- none of the lanes below k
+abbrev pub Clear : ℕ → (ℕ → Bool) → Type 0
+Clear k f = (i : ℕ) → 1 ≤ i → i < k → f i ≡ false
+
 -- 13
 abbrev pub lacksBy : Chosen → Bank → ℕ → Bool
 lacksBy c b i = chooses (c .lanes) i && not (isApp (c .count) (appSelIn b (c .set) i))
@@ -62,11 +70,20 @@ lacksBy c b i = chooses (c .lanes) i && not (isApp (c .count) (appSelIn b (c .se
 abbrev pub copiesBy : Chosen → ℕ → Bank → ℕ → Bool
 copiesBy c mask b i = chooses (c .lanes) i && hasApp (c .count) mask (appSelIn b (c .set) i)
 
+-- a mask that has the AppSel of every chosen lane below k that has one
+abbrev pub Wants : Chosen → Bank → ℕ → ℕ → Type 0
+Wants c b k apps =
+    (i : ℕ) → 1 ≤ i → i < k → (chooses (c .lanes) i && isApp (c .count) (appSelIn b (c .set) i)) ≡ true → bitOf apps (appSelIn b (c .set) i - 1) ≡ true
+
+abbrev pub joinedBy : Chosen → Bank → ℕ → ℕ → ℕ
+joinedBy c b i apps =
+    cond (chooses (c .lanes) i && isApp (c .count) (appSelIn b (c .set) i)) (bitOr apps (1 * 2 ^ (appSelIn b (c .set) i - 1) % 2 ^ 64)) apps
+
 -- 14: of a field, of an entry, of a list of entries
 unfoldable pub badAt : Chosen → Fields → Bank → ℕ → ℕ → Bool
 badAt c f b p i =
     copiesBy c (f .mask) b i
-    && not (allowedBy (f .values) (f .codes) (fromBits (signedIn (f .values)) (f .width) (bitsAt b (c .set) (f .offset) p (f .width) i)))
+    && not (eqb (f .width) 8 || bitOf (f .listed) (bitsAt b (c .set) (f .offset) p (f .width) i))
 
 unfoldable pub badIn : Chosen → Fields → Bank → ℕ → Bool
 badIn c f b i = any (f .parts) λ p. badAt c f b p i
@@ -87,3 +104,8 @@ copyEntry c f b₀ = loop (f .parts) (λ p. copyPart c f b₀ p)
 
 unfoldable pub copyAmong : Chosen → List Entry → Bank → Bank → Bank
 copyAmong c l b₀ = loop (length l) (λ e. copyEntry c (fieldsOf (getD l e nothing)) b₀)
+
+-- the copy of every lane of an entry, byte by byte
+unfoldable pub bytesCopied : ℕ → Fields → Bank → Bank → Bank
+bytesCopied staged f b₀ =
+    loop (f .parts * f .width) (λ k. λ b. set b (512 + (f .offset + k)) (getD b₀ (256 * staged + (f .offset + k)) 0))

@@ -1,49 +1,58 @@
--- The constant rows of the accepted values as lists, their columns, and what they accept.
-use mathlib.Core.Bool.{Bool, false, _&&_, _||_, not}
+-- The constant rows that setting asks as lists, their columns, and what they accept.
+use mathlib.Core.Path.{_≡_}
+use mathlib.Core.Bool.{Bool, false, _&&_, cond}
 use mathlib.Core.List.{List, [], _∷_}
 use Prim.Native.Nat.{ℕ, _/_, _%_}
-use lib.IntN.{ℤ, pos, _-ℤ_}
+use lib.IntN.{ℤ, pos, negsuc}
+use lib.Signed.{leZ}
 use lib.ListN.{getD}
-use lib.Dec.{ltb}
-use Rattle.rules.specs.Parameter.{Range, codes}
-use Rattle.rules.specs.Accept.{within, inCodes, accepts}
+use lib.Bits.{bitAnd}
+use lib.Dec.{eqb}
+use Rattle.rules.specs.Parameter.{codes}
+use Rattle.rules.specs.Accept.{inCodes, accepts}
 
 abbrev pub classes : List ℕ
-classes = 0 ∷ 0 ∷ 1 ∷ 2 ∷ 3 ∷ 1 ∷ 1 ∷ 4 ∷ 5 ∷ 0 ∷ 0 ∷ 0 ∷ 0 ∷ 0 ∷ 0 ∷ 6 ∷ 6 ∷ 7 ∷ 7 ∷ []
+classes = 0 ∷ 0 ∷ 1 ∷ 2 ∷ 3 ∷ 1 ∷ 1 ∷ 4 ∷ 5 ∷ 0 ∷ 0 ∷ 0 ∷ 0 ∷ 0 ∷ 0 ∷ 6 ∷ 6 ∷ 7 ∷ 8 ∷ []
 
-abbrev pub values : List ℕ
-values =
-    0x000001000100 ∷ 0x000000010100 ∷ 0x000000020100 ∷ 0x0100000F0100 ∷ 0x010000070B0F ∷ 0x010000030F0F ∷ 0x000000FF0100 ∷ 0x008000FF0100 ∷ []
+abbrev pub rows : List ℕ
+rows = 0x00000000 ∷ 0x11000003 ∷ 0x12000007 ∷ 0x1410FFFF ∷ 0x2420F8FF ∷ 0x1410800F ∷ 0x18000000 ∷ 0x28010000 ∷ 0x18010000 ∷ []
+
+-- lent constants
+pub record Tables (x y : List ℕ) : Type 0 where
+  pub classes-are : x ≡ classes
+  pub rows-are : y ≡ rows
 
 -- the code's row of an ID
-unfoldable pub valuesNumber : ℕ → ℕ
-valuesNumber id = getD values (getD classes id 0) 0
+unfoldable pub rowNumber : ℕ → ℕ
+rowNumber id = getD rows (getD classes id 0) 0
 
--- its columns: whether the code mask is asked, what its numbers stand above the accepted values, and two ranges
-abbrev pub askedIn : ℕ → Bool
-askedIn row = ltb 0 (row / 0x10000000000)
+-- its columns
+abbrev pub partsIn : ℕ → ℕ
+partsIn row = row / 0x10000000
 
-abbrev pub baseIn : ℕ → ℕ
-baseIn row = row / 0x100000000 % 256
+abbrev pub widthIn : ℕ → ℕ
+widthIn row = row / 0x1000000 % 16
+
+abbrev pub maskIn : ℕ → ℕ
+maskIn row = row / 0x100000 % 16
 
 abbrev pub signedIn : ℕ → Bool
-signedIn row = ltb 0 (baseIn row)
+signedIn row = eqb (row / 0x10000 % 16) 1
 
-abbrev pub edge : ℕ → ℕ → ℤ
-edge n base = pos n -ℤ pos base
+abbrev pub codesIn : ℕ → ℕ
+codesIn row = row % 0x10000
 
-abbrev pub firstIn : ℕ → Range
-firstIn row = record { low = edge (row / 0x1000000 % 256) (baseIn row); high = edge (row / 0x10000 % 256) (baseIn row) }
+-- the accepted codes, given an entry's code mask
+unfoldable pub listedBy : ℕ → ℕ → ℕ
+listedBy row mask = cond (eqb (maskIn row) 0) (codesIn row) (bitAnd (codesIn row) mask)
 
-abbrev pub otherIn : ℕ → Range
-otherIn row = record { low = edge (row / 0x100 % 256) (baseIn row); high = edge (row % 256) (baseIn row) }
+-- every number of 8 bits
+abbrev pub inByte : Bool → ℤ → Bool
+inByte signed v = cond signed (leZ (negsuc 127) v && leZ v (pos 127)) (leZ (pos 0) v && leZ v (pos 255))
 
-abbrev pub rangesIn : ℕ → List Range
-rangesIn row = firstIn row ∷ otherIn row ∷ []
-
--- what a row accepts, given an entry's code mask
+-- what a row accepts
 unfoldable pub allowedBy : ℕ → ℕ → ℤ → Bool
-allowedBy row mask v = within (rangesIn row) v && (not (askedIn row) || inCodes codes mask v)
+allowedBy row mask v = cond (eqb (widthIn row) 8) (inByte (signedIn row) v) (inCodes codes (listedBy row mask) v)
 
 -- the accepted values of an entry with this ID and code mask, whatever else its bytes say
 abbrev pub acceptsBy : ℕ → ℕ → ℤ → Bool

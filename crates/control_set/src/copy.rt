@@ -5,14 +5,16 @@ ghost use lib.ListN.{length, getD, set};
 ghost use Rattle.rules.specs.Load.{rwEntries};
 ghost use Rattle.rules.specs.Bank.{merge};
 ghost use Rattle.control_set.specs.Field.{Room, Spot, bitsAt, withBits};
-ghost use Rattle.control_set.specs.Plan.{Asked, Listed, Spread, copyLane, copyPart, copyEntry, copyAmong};
+ghost use Rattle.control_set.specs.Plan.{Asked, Listed, Spread, Wants, Clear, lacksBy, copyLane, copyPart, copyEntry, copyAmong, bytesCopied};
+ghost use Rattle.control_set.specs.Values.{Tables};
 use crate::bank::read_field;
 use crate::field::merged;
 use crate::plan::Chosen;
 use crate::plan::Fields;
 use crate::plan::copies;
-use crate::plan::fields_of;
-use descriptor::entry_from;
+use crate::plan::fields_at;
+use descriptor::byte_from;
+use descriptor::mask_bytes;
 
 // The copier: bits into a byte of the active set, which is all that it is lent.
 fn put_bits(active: &mut [u8], at: usize, bit: usize, width: usize, bits: u8)
@@ -20,6 +22,13 @@ fn put_bits(active: &mut [u8], at: usize, bit: usize, width: usize, bits: u8)
     ensures { λ _. ⌜ now (active .exit) ≡ set (now (active .entry)) at (merge (getD (now (active .entry)) at 0) bit width bits) ⌝ }
 {
     active[at] = merged(active[at], bit, width, bits);
+}
+
+fn put_byte(active: &mut [u8], at: usize, byte: u8)
+    requires { ⌜ at < length (now active) ⌝ }
+    ensures { λ _. ⌜ now (active .exit) ≡ set (now (active .entry)) at byte ⌝ }
+{
+    active[at] = byte;
 }
 
 // A field's bits, from a staged set.
@@ -68,19 +77,59 @@ fn copy_entry(chosen: Chosen, f: Fields, bank: &mut [u8])
     }
 }
 
+// All bytes of an entry's fields.
+fn copy_bytes(staged: usize, f: Fields, bank: &mut [u8])
+    requires { ⌜ (staged < 2) × Spread f × (784 ≤ length (now bank)) ⌝ }
+    ensures { λ _. ⌜ now (bank .exit) ≡ bytesCopied staged f (now (bank .entry)) (now (bank .entry)) ⌝ }
+{
+    let size = f.parts * f.width;
+    let mut k = 0;
+    while k < size {
+        let byte = bank[256 * staged + (f.offset + k)];
+        put_byte(&mut bank[512..768], f.offset + k, byte);
+        k += 1;
+    }
+}
+
+// What is copied of an entry: nothing where its mask has none of the chosen lanes' AppSels, all where it has those of all lanes.
+fn copy_chosen(chosen: Chosen, apps: usize, f: Fields, bank: &mut [u8])
+    requires { ⌜ Asked chosen (now bank) × Spread f × Wants chosen (now bank) 9 apps × Clear 9 (lacksBy chosen (now bank)) ⌝ }
+    ensures { λ _. ⌜ now (bank .exit) ≡ copyEntry chosen f (now (bank .entry)) (now (bank .entry)) ⌝ }
+{
+    let common = f.mask & apps;
+    if common == 0 {
+        return;
+    }
+    if (common == apps) & (chosen.lanes == 255) {
+        copy_bytes(chosen.set, f, bank);
+        return;
+    }
+    copy_entry(chosen, f, bank);
+}
+
 // All RW entries.
-pub fn copy_all(chosen: Chosen, rw: &[u8], entries: usize, bank: &mut [u8])
-    requires { ⌜ Asked chosen (now bank) × Listed (chosen .count) (now rw) entries ⌝ }
+pub fn copy_all(
+    classes: &[u8; 19],
+    rows: &[u32; 9],
+    chosen: Chosen,
+    apps: usize,
+    rw: &[u8],
+    entries: usize,
+    bank: &mut [u8],
+)
+    requires { ⌜ Tables (now classes) (now rows) × Listed (chosen .count) (now rw) entries ⌝ }
+    requires { ⌜ Asked chosen (now bank) × Wants chosen (now bank) 9 apps × Clear 9 (lacksBy chosen (now bank)) ⌝ }
     ensures { λ _. ⌜ now (bank .exit) ≡ copyAmong chosen (rwEntries (chosen .count) (now (rw .entry))) (now (bank .entry)) (now (bank .entry)) ⌝ }
 {
+    let a = mask_bytes(chosen.count);
     let mut number = 0;
     let mut at = 0;
     let mut sum = 0;
     while number < entries {
-        let e = entry_from(chosen.count, rw, at, sum);
-        copy_entry(chosen, fields_of(e), bank);
+        let f = fields_at(classes, rows, a, rw, at, sum);
+        copy_chosen(chosen, apps, f, bank);
         number += 1;
-        at += e.length;
-        sum += e.memory;
+        sum += byte_from(rw, at + 2 + a);
+        at += byte_from(rw, at + 1);
     }
 }

@@ -15,6 +15,8 @@ mod gate; // 9, 8 and 1 to 7
 mod number; // numbers and bits
 mod plan; // 13 and 14
 
+use crate::accept::CLASSES;
+use crate::accept::ROWS;
 use crate::accept::accepts;
 use crate::accept::signed;
 use crate::bank::read_field;
@@ -32,6 +34,7 @@ use crate::number::wide;
 use crate::plan::Chosen;
 use crate::plan::lowest_bad;
 use crate::plan::lowest_lacking;
+use crate::plan::wanted;
 use descriptor::Found;
 use descriptor::shape_of;
 use rules::Answer;
@@ -111,7 +114,13 @@ fn refused(found: Found) -> Answer
     ensures { λ r. ⌜ r ≡ refusedOf found ⌝ }
 {
     match found {
-        Found::In { ro: _, entry: _ } => Answer::Yes,
+        Found::In {
+            ro: _,
+            id: _,
+            offset: _,
+            codes: _,
+            step: _,
+        } => Answer::Yes,
         Found::Refused(r) => Answer::Refused(r),
     }
 }
@@ -134,23 +143,26 @@ pub fn write(
     let found = admit_entry(count, rw, ro, bank.len(), entry);
     let Found::In {
         ro: in_ro,
-        entry: e,
+        id,
+        offset,
+        codes,
+        step: _,
     } = found
     else {
         return refused(found);
     };
-    let shape = shape_of(e.id);
+    let shape = shape_of(id);
     if !((set < 3) & ((part < shape.parts) & ((1 <= lane) & (lane <= 8)))) {
         return Answer::Refused(Refusal::Plain(10));
     }
     if (set == 2) | in_ro {
         return Answer::Refused(Refusal::Plain(11));
     }
-    if !accepts(e.id, e.codes, value) {
+    if !accepts(id, codes, value) {
         return Answer::Refused(Refusal::Plain(12));
     }
     let bits = bits_of(shape.width, value);
-    write_field(bank, set, e.offset, part, shape.width, lane, bits);
+    write_field(bank, set, offset, part, shape.width, lane, bits);
     Answer::Yes
 }
 
@@ -170,20 +182,23 @@ pub fn read(
     let found = admit_entry(count, rw, ro, bank.len(), entry);
     let Found::In {
         ro: in_ro,
-        entry: e,
+        id,
+        offset,
+        codes: _,
+        step: _,
     } = found
     else {
         return refused(found);
     };
-    let shape = shape_of(e.id);
+    let shape = shape_of(id);
     if !((set < 3) & ((part < shape.parts) & ((1 <= lane) & (lane <= 8)))) {
         return Answer::Refused(Refusal::Plain(10));
     }
     if (set < 2) & in_ro {
         return Answer::Refused(Refusal::Plain(11));
     }
-    let bits = read_field(bank, set, e.offset, part, shape.width, lane);
-    Answer::Number(number_of(signed(e.id), shape.width, bits))
+    let bits = read_field(bank, set, offset, part, shape.width, lane);
+    Answer::Number(number_of(signed(id), shape.width, bits))
 }
 
 // A call that names a byte, refused by the gate.
@@ -262,23 +277,26 @@ pub fn publish(
     let found = admit_entry(count, rw, ro, bank.len(), entry);
     let Found::In {
         ro: in_ro,
-        entry: e,
+        id,
+        offset,
+        codes,
+        step: _,
     } = found
     else {
         return refused(found);
     };
-    let shape = shape_of(e.id);
+    let shape = shape_of(id);
     if !((part < shape.parts) & ((1 <= lane) & (lane <= 8))) {
         return Answer::Refused(Refusal::Plain(10));
     }
     if !in_ro {
         return Answer::Refused(Refusal::Plain(11));
     }
-    if !accepts(e.id, e.codes, value) {
+    if !accepts(id, codes, value) {
         return Answer::Refused(Refusal::Plain(12));
     }
     let bits = bits_of(shape.width, value);
-    write_field(bank, 2, e.offset, part, shape.width, lane, bits);
+    write_field(bank, 2, offset, part, shape.width, lane, bits);
     Answer::Yes
 }
 
@@ -303,15 +321,18 @@ pub fn apply(count: usize, rw: &[u8], ro: &[u8], bank: &mut [u8], set: usize, la
                 return Answer::Refused(Refusal::Plain(11));
             }
             let chosen = Chosen { count, set, lanes };
+            let classes = CLASSES;
+            let rows = ROWS;
+            let apps = wanted(chosen, bank);
             let lacking = lowest_lacking(chosen, bank);
-            let bad = lowest_bad(chosen, rw, entries, bank);
+            let bad = lowest_bad(&classes, &rows, chosen, apps, rw, entries, bank);
             if lacking != 9 {
                 return Answer::Refused(Refusal::AtLane(13, lacking));
             }
             if bad != 9 {
                 return Answer::Refused(Refusal::AtLane(14, bad));
             }
-            copy_all(chosen, rw, entries, bank);
+            copy_all(&classes, &rows, chosen, apps, rw, entries, bank);
             Answer::Yes
         }
     }
@@ -354,12 +375,19 @@ pub fn weight(count: usize, rw: &[u8], ro: &[u8], bank: &[u8], entry: usize, lan
     ensures { λ r. ⌜ r ≡ weightCall count (now (rw .entry)) (now (ro .entry)) (now (bank .entry)) entry lane ⌝ }
 {
     let found = admit_entry(count, rw, ro, bank.len(), entry);
-    let Found::In { ro: _, entry: e } = found else {
+    let Found::In {
+        ro: _,
+        id,
+        offset,
+        codes: _,
+        step,
+    } = found
+    else {
         return refused(found);
     };
-    if !((e.id == 0x12) & ((1 <= lane) & (lane <= 8))) {
+    if !((id == 0x12) & ((1 <= lane) & (lane <= 8))) {
         return Answer::Refused(Refusal::Plain(10));
     }
-    let bits = read_field(bank, 2, e.offset, 0, 8, lane);
-    Answer::Number(weight_of(e.step, number_of(true, 8, bits)))
+    let bits = read_field(bank, 2, offset, 0, 8, lane);
+    Answer::Number(weight_of(step, number_of(true, 8, bits)))
 }

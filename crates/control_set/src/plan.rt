@@ -2,20 +2,20 @@
 ghost use mathlib.Core.Path.{_≡_};
 ghost use Prim.Native.Nat.{_≤_, _<_};
 ghost use lib.ListN.{length};
-ghost use Rattle.rules.specs.Descriptor.{isApp, hasApp};
+ghost use Rattle.rules.specs.Descriptor.{isApp, hasApp, highFirst, entryAt};
 ghost use Rattle.rules.specs.Load.{rwEntries};
 ghost use Rattle.rules.specs.Layout.{bankSize};
 ghost use Rattle.rules.specs.Refuse.{chooses};
 ghost use Rattle.rules.specs.Bank.{appSelIn};
-ghost use Rattle.control_set.specs.Plan.{Asked, Listed, Spread, fieldsOf, copiesBy, lacksBy, badAt, badIn, badAmong, Least};
-use crate::accept::allowed;
-use crate::accept::is_signed;
-use crate::accept::values_of;
+ghost use Rattle.descriptor.specs.Wide.{standingAt};
+ghost use Rattle.control_set.specs.Values.{Tables};
+ghost use Rattle.control_set.specs.Plan.{Asked, Listed, Spread, Wants, joinedBy, fieldsOf, codesFrom, copiesBy, lacksBy, badAt, badIn, badAmong, Least};
+use crate::accept::listed;
+use crate::accept::row_in;
 use crate::bank::read_field;
-use crate::number::number_of;
-use descriptor::entry_from;
-use descriptor::shape_of;
-use rules::Entry;
+use descriptor::byte_from;
+use descriptor::mask_bytes;
+use descriptor::pair_from;
 
 // What apply is asked: the count, a staged set, and lanes, bit i − 1 for lane i.
 pub struct Chosen {
@@ -24,27 +24,61 @@ pub struct Chosen {
     pub lanes: u8,
 }
 
-// What apply needs of an entry: its masks, where its fields lie, and the row of their accepted values.
+// What apply needs of an entry: its application mask, its accepted codes, and where its fields lie.
 pub struct Fields {
     pub mask: usize,
-    pub codes: usize,
+    pub listed: usize,
     pub offset: usize,
     pub parts: usize,
     pub width: usize,
-    pub values: u64,
 }
 
-pub fn fields_of(e: Entry) -> Fields
-    ensures { λ r. ⌜ r ≡ fieldsOf e ⌝ }
+// An application mask of a bytes.
+fn mask_at(a: usize, s: &[u8], at: usize) -> usize
+    requires { ⌜ (1 ≤ a) × (a ≤ 2) ⌝ }
+    ensures { λ r. ⌜ r ≡ highFirst (now (s .entry)) at a ⌝ }
 {
-    let shape = shape_of(e.id);
+    if a == 1 {
+        return byte_from(s, at);
+    }
+    pair_from(s, at)
+}
+
+// The code mask of an entry whose extras begin at a place, by the row's column; 0 where its ID has none.
+fn codes_at(column: u32, s: &[u8], at: usize) -> usize
+    requires { ⌜ at ≤ 900 ⌝ }
+    ensures { λ r. ⌜ r ≡ codesFrom column (now (s .entry)) at ⌝ }
+{
+    if column == 0 {
+        return 0;
+    }
+    if column == 1 {
+        return pair_from(s, at);
+    }
+    pair_from(s, at + 1)
+}
+
+// The entry at a place of a string, with its offset in a set.
+pub fn fields_at(
+    classes: &[u8; 19],
+    rows: &[u32; 9],
+    a: usize,
+    s: &[u8],
+    at: usize,
+    offset: usize,
+) -> Fields
+    requires { ⌜ Tables (now classes) (now rows) ⌝ }
+    requires { ⌜ (1 ≤ a) × (a ≤ 2) × (at ≤ 120) ⌝ }
+    ensures { λ r. ⌜ r ≡ fieldsOf (entryAt a (now (s .entry)) (standingAt at offset)) ⌝ }
+{
+    let row = row_in(classes, rows, byte_from(s, at));
+    let codes = codes_at(row / 0x100000 % 16, s, at + 4 + a);
     Fields {
-        mask: e.mask,
-        codes: e.codes,
-        offset: e.offset,
-        parts: shape.parts,
-        width: shape.width,
-        values: values_of(e.id),
+        mask: mask_at(a, s, at + 2),
+        listed: listed(row, codes),
+        offset,
+        parts: (row / 0x10000000) as usize,
+        width: (row / 0x1000000 % 16) as usize,
     }
 }
 
@@ -114,16 +148,41 @@ pub fn lowest_lacking(chosen: Chosen, bank: &[u8]) -> usize
     9
 }
 
+// A mask with the AppSel of a lane too, if the lane is chosen and has one.
+fn joined(chosen: Chosen, apps: usize, lane: usize, bank: &[u8]) -> usize
+    requires { ⌜ Asked chosen (now bank) × (1 ≤ lane) × (lane ≤ 8) ⌝ }
+    ensures { λ r. ⌜ r ≡ joinedBy chosen (now (bank .entry)) lane apps ⌝ }
+{
+    let app = app_of(chosen.set, lane, bank);
+    if is_chosen(chosen.lanes, lane) & is_app(chosen.count, app) {
+        return apps | (1 << (app - 1));
+    }
+    apps
+}
+
+// The AppSels of the chosen lanes, as bits of an application mask.
+pub fn wanted(chosen: Chosen, bank: &[u8]) -> usize
+    requires { ⌜ Asked chosen (now bank) ⌝ }
+    ensures { λ r. ⌜ Wants chosen (now (bank .entry)) 9 r ⌝ }
+{
+    let mut apps = 0;
+    let mut lane = 1;
+    while lane < 9 {
+        apps = joined(chosen, apps, lane, bank);
+        lane += 1;
+    }
+    apps
+}
+
 // 14: whether a field is to be copied and holds a value not accepted.
 fn is_bad(chosen: Chosen, f: Fields, part: usize, lane: usize, bank: &[u8]) -> bool
     requires { ⌜ Asked chosen (now bank) × Spread f ⌝ }
-    requires { ⌜ (part < f .parts) × (1 ≤ lane) × (lane ≤ 8) ⌝ }
+    requires { ⌜ (f .width ≤ 4) × (part < f .parts) × (1 ≤ lane) × (lane ≤ 8) ⌝ }
     ensures { λ r. ⌜ r ≡ badAt chosen f (now (bank .entry)) part lane ⌝ }
 {
     if copies(chosen, f.mask, lane, bank) {
         let bits = read_field(bank, chosen.set, f.offset, part, f.width, lane);
-        let value = number_of(is_signed(f.values), f.width, bits);
-        return !allowed(f.values, f.codes, value);
+        return (f.listed >> bits) & 1 == 0;
     }
     false
 }
@@ -131,7 +190,7 @@ fn is_bad(chosen: Chosen, f: Fields, part: usize, lane: usize, bank: &[u8]) -> b
 // The lowest lane below `top` with such a field in a part, else `top`.
 fn lowest_in_part(chosen: Chosen, f: Fields, part: usize, top: usize, bank: &[u8]) -> usize
     requires { ⌜ Asked chosen (now bank) × Spread f ⌝ }
-    requires { ⌜ (part < f .parts) × (1 ≤ top) × (top ≤ 9) ⌝ }
+    requires { ⌜ (f .width ≤ 4) × (part < f .parts) × (1 ≤ top) × (top ≤ 9) ⌝ }
     ensures { λ r. ⌜ Least top r (badAt chosen f (now (bank .entry)) part) ⌝ }
 {
     let mut lane = 1;
@@ -144,12 +203,15 @@ fn lowest_in_part(chosen: Chosen, f: Fields, part: usize, top: usize, bank: &[u8
     top
 }
 
-// In an entry.
-fn lowest_in_entry(chosen: Chosen, f: Fields, top: usize, bank: &[u8]) -> usize
-    requires { ⌜ Asked chosen (now bank) × Spread f ⌝ }
+// In an entry. A field of 8 bits holds no other.
+fn lowest_in_entry(chosen: Chosen, apps: usize, f: Fields, top: usize, bank: &[u8]) -> usize
+    requires { ⌜ Asked chosen (now bank) × Spread f × Wants chosen (now bank) 9 apps ⌝ }
     requires { ⌜ (1 ≤ top) × (top ≤ 9) ⌝ }
     ensures { λ r. ⌜ Least top r (badIn chosen f (now (bank .entry))) ⌝ }
 {
+    if (f.mask & apps == 0) | (f.width == 8) {
+        return top;
+    }
     let mut lowest = top;
     let mut part = 0;
     while part < f.parts {
@@ -160,20 +222,30 @@ fn lowest_in_entry(chosen: Chosen, f: Fields, top: usize, bank: &[u8]) -> usize
 }
 
 // In all RW entries: the lowest lane of 1 to 8, else 9.
-pub fn lowest_bad(chosen: Chosen, rw: &[u8], entries: usize, bank: &[u8]) -> usize
-    requires { ⌜ Asked chosen (now bank) × Listed (chosen .count) (now rw) entries ⌝ }
+pub fn lowest_bad(
+    classes: &[u8; 19],
+    rows: &[u32; 9],
+    chosen: Chosen,
+    apps: usize,
+    rw: &[u8],
+    entries: usize,
+    bank: &[u8],
+) -> usize
+    requires { ⌜ Tables (now classes) (now rows) × Listed (chosen .count) (now rw) entries ⌝ }
+    requires { ⌜ Asked chosen (now bank) × Wants chosen (now bank) 9 apps ⌝ }
     ensures { λ r. ⌜ Least 9 r (badAmong chosen (rwEntries (chosen .count) (now (rw .entry))) (now (bank .entry))) ⌝ }
 {
+    let a = mask_bytes(chosen.count);
     let mut lowest = 9;
     let mut number = 0;
     let mut at = 0;
     let mut sum = 0;
     while number < entries {
-        let e = entry_from(chosen.count, rw, at, sum);
-        lowest = lowest_in_entry(chosen, fields_of(e), lowest, bank);
+        let f = fields_at(classes, rows, a, rw, at, sum);
+        lowest = lowest_in_entry(chosen, apps, f, lowest, bank);
         number += 1;
-        at += e.length;
-        sum += e.memory;
+        sum += byte_from(rw, at + 2 + a);
+        at += byte_from(rw, at + 1);
     }
     lowest
 }

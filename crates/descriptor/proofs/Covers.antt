@@ -1,28 +1,31 @@
--- The laws of `coverOf`: from the load's answer, and what a caller learns from each answer.
-use mathlib.Core.Path.{_≡_, refl, sym, _∙_}
+-- The laws of `coverOf`: from the load's answer and where the searches end, and what a caller learns from each answer.
+use mathlib.Core.Path.{_≡_, refl, sym, ap, _∙_}
 use mathlib.Core.Bool.{Bool, true, false, _&&_, not, cond}
-use mathlib.Core.List.{List, [], _∷_, _++_}
-use Prim.Native.Nat.{ℕ, zero, suc, _+_, _≤_, _<_}
+use mathlib.Core.List.{List, [], _∷_}
+use Prim.Native.Nat.{ℕ, zero, suc, _+_, _-_, _≤_, _<_}
 use native.Mathlib.Omega.{arith}
-use lib.ListN.{length, getD, length-append}
+use lib.ListN.{length, getD}
 use lib.Dec.{ltb, leb, ltb→lt, leb→le}
-use borrow.Author.Tests.{ltb-true, ltb-false, leb-true, le-leb}
+use borrow.Author.Tests.{ltb-true, ltb-false, lt-ltb, le-ltb, le-leb}
 use Rattle.rules.specs.declared.Entry.{Entry}
 use Rattle.rules.specs.declared.Refusal.{Refusal}
 use Rattle.rules.specs.declared.Loaded.{Loaded}
 use Rattle.rules.specs.declared.Loaded.the-variants.{Accepted as accepted, Refused as rejected}
-use Rattle.rules.specs.Load.{Map, loadOf, rwEntries, roEntries, entriesOf, total, mapOf}
-use Rattle.rules.specs.Place.{nothing, entry, isStaged, isRW, lengthOf}
-use Rattle.rules.specs.Refuse.{Verdict, passes, refuses, orderOf}
+use Rattle.rules.specs.Descriptor.{maskBytes, byteAt}
+use Rattle.rules.specs.Load.{Map, loadOf, total, mapOf}
+use Rattle.rules.specs.Place.{nothing, entry, isRW, heldBy, lengthOf}
 use Rattle.rules.specs.Demands.{Accepted}
 use Rattle.rules.proofs.Tests.{and-no, and₂, from-true}
-use Rattle.rules.proofs.Good.{Good}
-use Rattle.rules.proofs.Walks.{load-accepted, map-good}
-use Rattle.rules.proofs.EntryHeads.{strings-short, length-most, few-entries}
+use Rattle.rules.proofs.Good.{Good, starts}
+use Rattle.rules.proofs.Walks.{map-good}
+use Rattle.rules.proofs.EntryHeads.{Head, strings-short, length-most, few-entries, rw-head, ro-head}
 use Rattle.rules.proofs.Orders.{order-refused, order-accepted}
 use Rattle.descriptor.specs.declared.Covered.{Covered}
 use Rattle.descriptor.specs.declared.Covered.the-variants.{By as by, Nothing as noEntry, Refused as notCovered}
-use Rattle.descriptor.specs.Cover.{spans, coverIndex, coverIn, coverOf, Looking}
+use Rattle.descriptor.specs.Cover.{spans, coverIndex, coverIn, coverOf, Hits}
+use Rattle.descriptor.specs.Seek.{markAfter, Seeking}
+use Rattle.descriptor.specs.declared.search.Hit.{Hit}
+use Rattle.descriptor.proofs.Seeks.{Counted, counted, markOf, seek-rw, seeking-rw, seek-ro, seeking-ro, sum-staged, sum-active}
 
 -- coverIndex
 
@@ -56,6 +59,22 @@ index-none from (e ∷ l) k g h n = go (ltb k (e .offset + e .memory)) refl (ind
         let z : e .offset + e .memory ≤ k = ltb-false k (e .offset + e .memory) q in
         omega (arith, r (omega (arith, g .1)) (omega arith))
 
+-- an entry that covers the byte is the first that does
+index-is :
+    (from : ℕ) (l : List Entry) (n k : ℕ)
+    → Good from l
+    → n < length l
+    → getD l n nothing .offset ≤ k
+    → k < getD l n nothing .offset + getD l n nothing .memory
+    → coverIndex l k ≡ n
+unfolding coverIndex
+index-is from [] n k g h low top = absurd (omega arith)
+index-is from (e ∷ l) zero k g h low top = rw (le-leb (e .offset) k low, lt-ltb k (e .offset + e .memory) top) refl
+index-is from (e ∷ l) (suc n) k g h low top =
+    let b : ltb k (e .offset + e .memory) ≡ false
+    = le-ltb k (e .offset + e .memory) (omega (arith, g .1, starts (from + e .memory) l n (g .2) (omega arith))) in
+    rw (b, and-no (leb (e .offset) k)) (ap suc (index-is (from + e .memory) l n k (g .2) (omega arith) low top))
+
 -- an entry whose space covers byte k
 pub record Covering (count : ℕ) (rw ro : List ℕ) (k : ℕ) (inRO : Bool) (n id offset : ℕ) : Type 0 where
   pub ok : Accepted count rw ro
@@ -83,16 +102,6 @@ module _ (count : ℕ) (first last : List ℕ) (k : ℕ) where
   pub cover-accepted : Accepted count first last → coverIn (mapOf count first last) k ≡ coverOf count first last k
   unfolding coverOf
   cover-accepted ok = rw (order-accepted count first last ok []) refl
-
-  -- the counts of the load are those of the entries to look through
-  pub looking : (n c d t : ℕ) → loadOf count first last ≡ accepted n c d t → Looking count first last n (n + c) × (n + c ≤ 240)
-  unfolding mapOf entriesOf
-  looking n c d t h =
-      let a = load-accepted count first last n c d t h in
-      let ok : Accepted count first last = record { rwCount = n; roCount = c; staged = d; active = t; loads = h } in
-      let all : length (rwEntries count first ++ roEntries count first last) ≡ n + c
-      = omega (arith, a .rwCount, a .roCount, length-append (rwEntries count first) (roEntries count first last)) in
-      (record { accepted = ok; rws-is = sym (a .rwCount); all-is = all }, omega (arith, few-entries count first last ok, strings-short count first last ok))
 
   in-map : Accepted count first last → Says count first last k (coverIn m k)
   unfolding coverIn
@@ -138,3 +147,87 @@ module _ (count : ℕ) (first last : List ℕ) (k : ℕ) where
     where
       go : Says count first last k (by inRO n id offset) → Covering count first last k inRO n id offset
       go (one c) = c
+
+-- for `cover`: what the search of each string finds
+module _ (count : ℕ) (first last : List ℕ) (k n c d t : ℕ) (h : loadOf count first last ≡ accepted n c d t) where
+  abbrev p : Map
+  p = mapOf count first last
+
+  z : Counted count first last n c d t
+  z = counted count first last n c d t h
+
+  pub seeks-first : Seeking (maskBytes count) first 0 n
+  seeks-first = rw (z .rw-is) at (seeking-rw count first last (z .ok) (p .rwCount) (omega arith))
+
+  pub seeks-last : Seeking (maskBytes count) last d c
+  seeks-last =
+      let l : length (p .entries) - p .rwCount ≡ c = omega (arith, z .rw-is, z .all-is) in
+      rw (l, z .staged-is) at (seeking-ro count first last (z .ok) (length (p .entries)) (omega (arith, z .rw-is, z .all-is)) (omega arith))
+
+  -- the entry that covers the byte, from the bytes where it stands
+  covers-at :
+      (e : ℕ) {s : List ℕ} {i o : ℕ}
+      → e < length (p .entries)
+      → Head (maskBytes count) s (entry p e)
+      → markOf (entry p e) ≡ record { at = i; sum = o }
+      → o ≤ k
+      → k < o + byteAt s (i + 2 + maskBytes count)
+      → (i < length s) × (by (not (isRW p e)) e (byteAt s i) o ≡ coverOf count first last k)
+  unfolding coverIn
+  covers-at e {s} {i} {o} l w q low top =
+      let a : entry p e .start ≡ i = ap (λ x. x .at) q in
+      let b : entry p e .offset ≡ o = ap (λ x. x .sum) q in
+      let id : entry p e .id ≡ byteAt s (entry p e .start) = ap (λ x. x .id) (w .says) in
+      let memory : entry p e .memory ≡ byteAt s (entry p e .start + 2 + maskBytes count) = ap (λ x. x .memory) (w .says) in
+      let y : k < entry p e .offset + entry p e .memory = rw (memory, a, b) top in
+      let j : coverIndex (p .entries) k ≡ e = index-is 0 (p .entries) e k (map-good count first last (z .ok) .list) l (omega arith) y in (
+        omega (arith, w .room),
+        rw (← a, ← b, ← id) (sym (rw (j, lt-ltb e (length (p .entries)) l) refl)) ∙ cover-accepted count first last k (z .ok),
+      )
+
+  module _ {x : Hit} (f : Hits (maskBytes count) first 0 n k x) where
+    pub covers-first : x .number < n → (x .at < length first) × (by false (x .number) (byteAt first (x .at)) (x .sum) ≡ coverOf count first last k)
+    covers-first l =
+        let u : x .number < p .rwCount = rw (z .rw-is) l in
+        let v = covers-at (x .number) (omega (arith, z .all-is)) (rw-head count first last (z .ok) (x .number) u) (sym (seek-rw count first last (z .ok) (x .number) u) ∙ f .is) (f .low) (f .top l) in
+        rw (lt-ltb (x .number) (p .rwCount) u) at v
+
+    -- none: the byte lies past the staged length
+    pub past-first : n ≤ x .number → d ≤ k
+    past-first l =
+        let y : x .number ≡ p .rwCount = omega (arith, f .few, z .rw-is) in
+        let v : x .sum ≡ d = sym (ap (λ i. i .sum) (f .is)) ∙ rw y (sum-staged count first last (z .ok)) ∙ z .staged-is in
+        omega (arith, f .low)
+
+  module _ {x : Hit} (f : Hits (maskBytes count) last d c k x) where
+    abbrev e : ℕ
+    e = n + x .number
+
+    pub covers-last : x .number < c → (x .at < length last) × (by true (n + x .number) (byteAt last (x .at)) (x .sum) ≡ coverOf count first last k) × (n + x .number ≤ 240)
+    covers-last l =
+        let u : p .rwCount ≤ e = omega (arith, z .rw-is) in
+        let g : e < length (p .entries) = omega (arith, z .all-is) in
+        let y : e - p .rwCount ≡ x .number = omega (arith, z .rw-is) in
+        let s : markAfter (maskBytes count) last d (x .number) ≡ markOf (entry p e) = rw (y, z .staged-is) at (seek-ro count first last (z .ok) e u g) in
+        let v = rw (le-ltb e (p .rwCount) u) at (covers-at e g (ro-head count first last (z .ok) e u g) (sym s ∙ f .is) (f .low) (f .top l)) in
+        (v .0, v .1, omega (arith, few-entries count first last (z .ok), strings-short count first last (z .ok)))
+
+    -- none: the byte lies past every set
+    pub covers-none : c ≤ x .number → noEntry ≡ coverOf count first last k
+    unfolding coverIn heldBy lengthOf
+    covers-none l = go (ltb (coverIndex (p .entries) k) (length (p .entries))) refl ∙ cover-accepted count first last k (z .ok)
+      where
+        past : p .active ≤ k
+        past =
+            let y : p .rwCount + x .number ≡ length (p .entries) = omega (arith, f .few, z .rw-is, z .all-is) in
+            let s : markAfter (maskBytes count) last d (x .number) .sum ≡ p .active = rw (z .staged-is) at (sum-active count first last (z .ok) (x .number) y) in
+            omega (arith, f .low, ap (λ i. i .sum) (f .is))
+
+        go : (b : Bool) → ltb (coverIndex (p .entries) k) (length (p .entries)) ≡ b
+            → noEntry ≡ cond b (by (not (isRW p (coverIndex (p .entries) k))) (coverIndex (p .entries) k) (entry p (coverIndex (p .entries) k) .id) (entry p (coverIndex (p .entries) k) .offset)) noEntry
+        go true q =
+            let i = coverIndex (p .entries) k in
+            let u : i < length (p .entries) = ltb-true i (length (p .entries)) q in
+            let (_, y) = and₂ (leb (entry p i .offset) k) (ltb k (entry p i .offset + entry p i .memory)) (from-true (index-spans (p .entries) k u)) in
+            absurd (omega (arith, past, ltb→lt k (entry p i .offset + entry p i .memory) y, map-good count first last (z .ok) .ends 2 i u))
+        go false q = refl

@@ -6,7 +6,6 @@ pub mod Both
 pub mod Seeks
 pub mod Locates
 pub mod Wides
-pub mod Looks
 pub mod Finds
 pub mod Covers
 pub mod Puts

@@ -1,23 +1,22 @@
 -- The laws of `locatedOf`, one for each way out.
-use mathlib.Core.Path.{_≡_, refl, sym, ap, _∙_}
+use mathlib.Core.Path.{_≡_, refl, ap, _∙_}
 use mathlib.Core.Bool.{Bool, true, false, not, cond}
 use mathlib.Core.List.{List, []}
 use Prim.Native.Nat.{ℕ, _+_, _-_, _≤_, _<_}
 use native.Mathlib.Omega.{arith}
-use lib.ListN.{length, take, drop, length-append}
+use lib.ListN.{length, take, drop}
 use borrow.Author.Tests.{lt-ltb, le-ltb}
 use Rattle.rules.specs.declared.Refusal.{Refusal}
 use Rattle.rules.specs.declared.Refusal.the-variants.{Plain as plain}
 use Rattle.rules.specs.declared.Loaded.the-variants.{Accepted as accepted, Refused as rejected}
 use Rattle.rules.specs.declared.Answer.the-variants.{Yes as saysYes, Refused as refused}
 use Rattle.rules.specs.Descriptor.{maskBytes, byteAt}
-use Rattle.rules.specs.Load.{Map, loadOf, rwEntries, roEntries, entriesOf, mapOf}
+use Rattle.rules.specs.Load.{Map, loadOf, mapOf}
 use Rattle.rules.specs.Place.{entry, isRW}
 use Rattle.rules.specs.Refuse.{Verdict, passes, refuses}
 use Rattle.rules.specs.Beside.{entryVerdict, answered, entryAnswer, ownBytes, partOr, entryBytes}
 use Rattle.rules.specs.Demands.{Accepted}
 use Rattle.rules.proofs.Orders.{order-refused, order-accepted}
-use Rattle.rules.proofs.Walks.{load-accepted}
 use Rattle.rules.proofs.EntryHeads.{rw-head, ro-head}
 use Rattle.rules.proofs.EntryParts.{entry-part, verdict-passes}
 use Rattle.descriptor.specs.declared.search.Mark.{Mark}
@@ -25,7 +24,7 @@ use Rattle.descriptor.specs.declared.Located.{Located}
 use Rattle.descriptor.specs.declared.Located.the-variants.{At as at, Refused as nowhere}
 use Rattle.descriptor.specs.Locate.{located, locatedOf}
 use Rattle.descriptor.specs.Seek.{markAfter, Seeking}
-use Rattle.descriptor.proofs.Seeks.{markOf, seek-rw, seeking-rw, seek-ro, seeking-ro}
+use Rattle.descriptor.proofs.Seeks.{Counted, counted, markOf, seek-rw, seeking-rw, seek-ro, seeking-ro}
 
 module _ (count : ℕ) (first last : List ℕ) (e : ℕ) where
   pub located-refused : (r : Refusal) → loadOf count first last ≡ rejected r → nowhere r ≡ locatedOf count first last e
@@ -33,33 +32,22 @@ module _ (count : ℕ) (first last : List ℕ) (e : ℕ) where
   located-refused r h = rw (order-refused count first last r h _) refl
 
   module _ (n k c t : ℕ) (h : loadOf count first last ≡ accepted n k c t) where
+    z : Counted count first last n k c t
+    z = counted count first last n k c t h
+
     ok : Accepted count first last
-    ok = record { rwCount = n; roCount = k; staged = c; active = t; loads = h }
-
-    rw-count : mapOf count first last .rwCount ≡ n
-    unfolding mapOf
-    rw-count = sym (load-accepted count first last n k c t h .rwCount)
-
-    all-count : length (mapOf count first last .entries) ≡ n + k
-    unfolding mapOf entriesOf
-    all-count =
-        let a = load-accepted count first last n k c t h in
-        omega (arith, a .rwCount, a .roCount, length-append (rwEntries count first) (roEntries count first last))
+    ok = z .ok
 
     verdict-found : e < n + k → entryVerdict count first last e ≡ passes
     unfolding entryVerdict
-    verdict-found l = order-accepted count first last ok _ ∙ rw (lt-ltb e (length (mapOf count first last .entries)) (rw all-count l)) refl
-
-    staged-is : mapOf count first last .staged ≡ c
-    unfolding mapOf
-    staged-is = sym (load-accepted count first last n k c t h .staged)
+    verdict-found l = order-accepted count first last ok _ ∙ rw (lt-ltb e (length (mapOf count first last .entries)) (rw (z .all-is) l)) refl
 
     module _ (l : e < n) where
       here : e < mapOf count first last .rwCount
-      here = rw rw-count l
+      here = rw (z .rw-is) l
 
       pub seeks-rw : Seeking (maskBytes count) first 0 e
-      seeks-rw = seeking-rw count first last ok e here
+      seeks-rw = seeking-rw count first last ok e (omega (arith, here))
 
       module _ (mark : Mark) (q : mark ≡ markAfter (maskBytes count) first 0 e) where
         -- the entry stands at the mark, with its second byte
@@ -70,22 +58,22 @@ module _ (count : ℕ) (first last : List ℕ) (e : ℕ) where
         unfolding locatedOf
         located-rw =
             let x = entry (mapOf count first last) e in
-            let z : x .length ≡ byteAt first (x .start + 1) = ap (λ y. y .length) (rw-head count first last ok e here .says) in
-            rw (verdict-found (omega arith), lt-ltb e (mapOf count first last .rwCount) here, q, seek-rw count first last ok e here, ← z) refl
+            let y : x .length ≡ byteAt first (x .start + 1) = ap (λ i. i .length) (rw-head count first last ok e here .says) in
+            rw (verdict-found (omega arith), lt-ltb e (mapOf count first last .rwCount) here, q, seek-rw count first last ok e here, ← y) refl
 
     module _ (l : n ≤ e) (u : e < n + k) where
       past-rw : mapOf count first last .rwCount ≤ e
-      past-rw = rw rw-count l
+      past-rw = rw (z .rw-is) l
 
       there : e < length (mapOf count first last .entries)
-      there = rw all-count u
+      there = rw (z .all-is) u
 
       pub seeks-ro : Seeking (maskBytes count) last c (e - n)
-      seeks-ro = rw (rw-count, staged-is) at (seeking-ro count first last ok e past-rw there)
+      seeks-ro = rw (z .rw-is, z .staged-is) at (seeking-ro count first last ok e past-rw (omega (arith, there)))
 
       module _ (mark : Mark) (q : mark ≡ markAfter (maskBytes count) last c (e - n)) where
         mark-is : mark ≡ markOf (entry (mapOf count first last) e)
-        mark-is = q ∙ (rw (rw-count, staged-is) at (seek-ro count first last ok e past-rw there))
+        mark-is = q ∙ (rw (z .rw-is, z .staged-is) at (seek-ro count first last ok e past-rw there))
 
         pub inside-ro : mark .at + 1 < length last
         inside-ro = rw mark-is (omega (arith, ro-head count first last ok e past-rw there .room))
@@ -94,12 +82,12 @@ module _ (count : ℕ) (first last : List ℕ) (e : ℕ) where
         unfolding locatedOf
         located-ro =
             let x = entry (mapOf count first last) e in
-            let z : x .length ≡ byteAt last (x .start + 1) = ap (λ y. y .length) (ro-head count first last ok e past-rw there .says) in
-            rw (verdict-found u, le-ltb e (mapOf count first last .rwCount) past-rw, mark-is, ← z) refl
+            let y : x .length ≡ byteAt last (x .start + 1) = ap (λ i. i .length) (ro-head count first last ok e past-rw there .says) in
+            rw (verdict-found u, le-ltb e (mapOf count first last .rwCount) past-rw, mark-is, ← y) refl
 
     pub located-10 : n + k ≤ e → nowhere (plain 10) ≡ locatedOf count first last e
     unfolding locatedOf entryVerdict
-    located-10 l = rw (order-accepted count first last ok _, le-ltb e (length (mapOf count first last .entries)) (rw all-count l)) refl
+    located-10 l = rw (order-accepted count first last ok _, le-ltb e (length (mapOf count first last .entries)) (rw (z .all-is) l)) refl
 
   -- the entry call's answer, from where its entry stands
   pub located-yes : (x : Bool) (s l o : ℕ) → locatedOf count first last e ≡ at x s l o → saysYes ≡ entryAnswer count first last e

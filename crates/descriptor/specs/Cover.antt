@@ -1,8 +1,8 @@
 -- The entry whose space covers a byte: "it shall look through the entries in order and stop at the one whose space covers the byte".
 use mathlib.Core.Path.{_≡_}
-use mathlib.Core.Bool.{Bool, true, false, _&&_, not, cond}
+use mathlib.Core.Bool.{Bool, _&&_, not, cond}
 use mathlib.Core.List.{List, [], _∷_}
-use Prim.Native.Nat.{ℕ, suc, _+_, _-_, _≤_, _<_}
+use Prim.Native.Nat.{ℕ, suc, _+_, _≤_, _<_}
 use lib.ListN.{length}
 use lib.Dec.{ltb, leb}
 use Rattle.rules.specs.declared.Entry.{Entry}
@@ -10,10 +10,10 @@ use Rattle.rules.specs.Descriptor.{byteAt}
 use Rattle.rules.specs.Load.{Map, mapOf}
 use Rattle.rules.specs.Place.{entry, isRW}
 use Rattle.rules.specs.Refuse.{Verdict, passes, refuses, orderOf}
-use Rattle.rules.specs.Demands.{Accepted}
 use Rattle.descriptor.specs.declared.Covered.{Covered}
 use Rattle.descriptor.specs.declared.Covered.the-variants.{By as by, Nothing as noEntry, Refused as notCovered}
-use Rattle.descriptor.specs.declared.search.Head.{Head}
+use Rattle.descriptor.specs.declared.search.Hit.{Hit}
+use Rattle.descriptor.specs.Seek.{markAfter}
 
 -- the space of an entry, offset to offset + MemoryLength; "An entry with MemoryLength 0 covers no byte"
 abbrev pub spans : Entry → ℕ → Bool
@@ -39,21 +39,9 @@ covered (refuses r) x = notCovered r
 unfoldable pub coverOf : ℕ → List ℕ → List ℕ → ℕ → Covered
 coverOf count rw ro k = covered (orderOf count rw ro []) (coverIn (mapOf count rw ro) k)
 
--- what the search reads at a place of a string
-abbrev pub headAt : ℕ → List ℕ → ℕ → Head
-headAt a s at = record { id = byteAt s at; length = byteAt s (at + 1); memory = byteAt s (at + 2 + a) }
-
--- at a place of the two strings in a row
-abbrev pub headIn : ℕ → List ℕ → List ℕ → ℕ → Bool → Head
-headIn a rw ro at inRO = cond inRO (headAt a ro (at - length rw)) (headAt a rw at)
-
--- such a place has an entry's first bytes
-pub record HasHead (a : ℕ) (rw ro : List ℕ) (at : ℕ) (inRO : Bool) : Type 0 where
-  pub in-rw : inRO ≡ false → at + 2 + a < length rw
-  pub in-ro : inRO ≡ true → (length rw ≤ at) × (at - length rw + 2 + a < length ro)
-
--- strings that the load accepts, and how many entries they have
-pub record Looking (count : ℕ) (rw ro : List ℕ) (rws all : ℕ) : Type 0 where
-  pub accepted : Accepted count rw ro
-  pub rws-is : mapOf count rw ro .rwCount ≡ rws
-  pub all-is : length (mapOf count rw ro .entries) ≡ all
+-- past entries whose spaces end at byte k or before it: all n of a string, or up to one whose space ends past it
+pub record Hits (a : ℕ) (s : List ℕ) (sum n k : ℕ) (h : Hit) : Type 0 where
+  pub few : h .number ≤ n
+  pub is : markAfter a s sum (h .number) ≡ record { at = h .at; sum = h .sum }
+  pub low : h .sum ≤ k
+  pub top : h .number < n → k < h .sum + byteAt s (h .at + 2 + a)

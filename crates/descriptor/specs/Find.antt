@@ -1,7 +1,8 @@
--- The entry of a number, whole, with the string that it stands in, refused as the entry call is; and what the table says of an ID.
-use mathlib.Core.Bool.{not}
+-- What a call needs of the entry of a number, with the string that it stands in, refused as the entry call is; and what the table says of an ID.
+use mathlib.Core.Bool.{Bool, not}
 use mathlib.Core.List.{List}
 use Prim.Native.Nat.{ℕ}
+use Rattle.rules.specs.declared.Entry.{Entry}
 use Rattle.rules.specs.Parameter.{rowOf}
 use Rattle.rules.specs.Load.{mapOf}
 use Rattle.rules.specs.Place.{entry, isRW}
@@ -11,12 +12,16 @@ use Rattle.descriptor.specs.declared.Found.{Found}
 use Rattle.descriptor.specs.declared.Found.the-variants.{In as isIn, Refused as notFound}
 use Rattle.descriptor.specs.declared.Shape.{Shape}
 
+-- what a call needs of an entry
+abbrev pub entryIn : Bool → Entry → Found
+entryIn inRO e = isIn inRO (e .id) (e .offset) (e .codes) (e .step)
+
 abbrev pub found : Verdict → Found → Found
 found passes x = x
 found (refuses r) x = notFound r
 
 unfoldable pub foundOf : ℕ → List ℕ → List ℕ → ℕ → Found
-foundOf count rw ro e = found (entryVerdict count rw ro e) (isIn (not (isRW (mapOf count rw ro) e)) (entry (mapOf count rw ro) e))
+foundOf count rw ro e = found (entryVerdict count rw ro e) (entryIn (not (isRW (mapOf count rw ro) e)) (entry (mapOf count rw ro) e))
 
 -- parts and bits a lane
 abbrev pub shapeOf : ℕ → Shape

@@ -2,11 +2,9 @@
 use mathlib.Core.Bool.{false, cond}
 use mathlib.Core.List.{List}
 use Prim.Native.Nat.{ℕ, _+_}
-use lib.Dec.{ltb, eqb}
+use lib.Dec.{eqb}
 use Rattle.rules.specs.declared.State.{State}
-use Rattle.rules.specs.declared.Entry.{Entry}
-use Rattle.rules.specs.Descriptor.{maskBytes, highFirst, entryAt}
-use Rattle.rules.specs.Place.{nothing}
+use Rattle.rules.specs.Descriptor.{highFirst}
 
 -- a state at a place of a string, with the offset in a set; an entry's bytes say nothing of its number
 abbrev pub standingAt : ℕ → ℕ → State
@@ -14,7 +12,3 @@ standingAt start offset = record { at = start; number = 0; sum = offset; media =
 
 unfoldable pub codesBy : ℕ → List ℕ → ℕ → ℕ
 codesBy extras s at = cond (eqb extras 1) (highFirst s at 2) (cond (eqb extras 2) (highFirst s (at + 1) 2) 0)
-
--- the entry at a place of a string that is no longer than 120
-abbrev pub entryFrom : ℕ → List ℕ → ℕ → ℕ → Entry
-entryFrom count s start offset = cond (ltb 120 start) nothing (entryAt (maskBytes count) s (standingAt start offset))

@@ -4,13 +4,12 @@ ghost use mathlib.Core.List.{_++_};
 ghost use Prim.Native.Nat.{_+_, _≤_, _<_};
 ghost use lib.ListN.{length, drop};
 ghost use Rattle.rules.specs.Parameter.{rowOf};
-ghost use Rattle.rules.specs.Descriptor.{maskBytes};
+ghost use Rattle.rules.specs.Descriptor.{maskBytes, byteAt, highFirst};
 ghost use Rattle.rules.specs.Load.{sized, loadOf};
 ghost use Rattle.rules.specs.MapProgram.{mapOutput};
 ghost use Rattle.rules.specs.Beside.{entryAnswer, entryBytes};
 ghost use Rattle.descriptor.specs.Locate.{locatedOf};
 ghost use Rattle.descriptor.specs.Find.{foundOf, shapeOf};
-ghost use Rattle.descriptor.specs.Wide.{entryFrom};
 ghost use Rattle.descriptor.specs.Cover.{coverOf};
 
 mod rows; // constant rows by ID class
@@ -29,12 +28,10 @@ use crate::step::byte_at;
 use crate::text::put_refused;
 use crate::text::put_strings;
 use crate::walk::in_limits;
-use crate::walk::mask_bytes;
 use crate::walk::refused;
 use crate::walk::scan;
-use crate::wide::entry_at;
+use crate::wide::found_at;
 use rules::Answer;
-use rules::Entry;
 use rules::Loaded;
 use rules::Refusal;
 use rules::Walked;
@@ -158,9 +155,15 @@ pub fn entry_bytes<'a>(count: usize, rw: &'a [u8], ro: &'a [u8], entry: usize) -
     &rw[start..end]
 }
 
-// An entry, with the string that it stands in.
+// What a call needs of an entry, and whether it stands in the RO string.
 pub enum Found {
-    In { ro: bool, entry: Entry },
+    In {
+        ro: bool,
+        id: usize,
+        offset: usize,
+        codes: usize,
+        step: usize,
+    },
     Refused(Refusal),
 }
 
@@ -178,37 +181,14 @@ pub fn find(count: usize, rw: &[u8], ro: &[u8], entry: usize) -> Found
             offset,
         } => {
             let a = mask_bytes(count);
+            let classes = CLASSES;
+            let table = ROWS;
             if in_ro {
-                let e = entry_at(a, ro, start, offset);
-                return Found::In { ro: true, entry: e };
+                return found_at(&classes, &table, true, a, ro, start, offset);
             }
-            let e = entry_at(a, rw, start, offset);
-            Found::In {
-                ro: false,
-                entry: e,
-            }
+            found_at(&classes, &table, false, a, rw, start, offset)
         }
     }
-}
-
-// The entry that starts at a place of a string, with its offset in a set; none starts past byte 120.
-pub fn entry_from(count: usize, s: &[u8], start: usize, offset: usize) -> Entry
-    ensures { λ r. ⌜ r ≡ entryFrom count (now (s .entry)) start offset ⌝ }
-{
-    if 120 < start {
-        return Entry {
-            id: 0,
-            start: 0,
-            length: 0,
-            mask: 0,
-            memory: 0,
-            media: false,
-            codes: 0,
-            step: 0,
-            offset: 0,
-        };
-    }
-    entry_at(mask_bytes(count), s, start, offset)
 }
 
 // What the table says of an ID's fields: its parts and its bits a lane.
@@ -244,7 +224,7 @@ pub enum Covered {
     Refused(Refusal),
 }
 
-// The first entry whose space covers a byte, once the load has accepted the strings.
+// The first entry whose space covers a byte, once the load has accepted the strings: those of the RW string, then those of the RO string.
 pub fn cover(count: usize, rw: &[u8], ro: &[u8], offset: usize) -> Covered
     ensures { λ r. ⌜ r ≡ coverOf count (now (rw .entry)) (now (ro .entry)) offset ⌝ }
 {
@@ -254,9 +234,32 @@ pub fn cover(count: usize, rw: &[u8], ro: &[u8], offset: usize) -> Covered
         Loaded::Accepted {
             rw_count,
             ro_count,
-            staged_length: _,
+            staged_length,
             active_length: _,
-        } => look(count, rw, ro, rw_count, rw_count + ro_count, offset),
+        } => {
+            let a = mask_bytes(count);
+            let first = look(a, rw, 0, rw_count, offset);
+            if first.number < rw_count {
+                let at = first.at;
+                return Covered::By {
+                    ro: false,
+                    number: first.number,
+                    id: rw[at] as usize,
+                    offset: first.sum,
+                };
+            }
+            let last = look(a, ro, staged_length, ro_count, offset);
+            if last.number < ro_count {
+                let at = last.at;
+                return Covered::By {
+                    ro: true,
+                    number: rw_count + last.number,
+                    id: ro[at] as usize,
+                    offset: last.sum,
+                };
+            }
+            Covered::Nothing
+        }
     }
 }
 
@@ -284,4 +287,32 @@ pub fn least_length(count: usize, id: u8) -> usize
     let table = ROWS;
     let row = row_of(&classes, &table, id);
     ((row % 256) as usize) + mask_bytes(count)
+}
+
+// A, the bytes of an application mask.
+pub fn mask_bytes(count: usize) -> usize
+    ensures { λ r. ⌜ (r ≡ maskBytes count) × (1 ≤ r) × (r ≤ 2) ⌝ }
+{
+    if count <= 8 {
+        return 1;
+    }
+    2
+}
+
+// A byte of a string as a number, 0 past its end.
+pub fn byte_from(s: &[u8], at: usize) -> usize
+    ensures { λ r. ⌜ (r ≡ byteAt (now (s .entry)) at) × (r < 256) ⌝ }
+{
+    let byte = byte_at(s, at);
+    byte as usize
+}
+
+// Two bytes of a string as one number, high byte first.
+pub fn pair_from(s: &[u8], at: usize) -> usize
+    ensures { λ r. ⌜ r ≡ highFirst (now (s .entry)) at 2 ⌝ }
+{
+    if at < s.len() {
+        return byte_from(s, at) * 256 + byte_from(s, at + 1);
+    }
+    0
 }

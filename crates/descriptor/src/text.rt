@@ -11,11 +11,11 @@ ghost use Rattle.rules.specs.MapProgram.{decimal, endLine, refusedLine, mapText
 ghost use Rattle.descriptor.specs.Walks.{Ready};
 ghost use Rattle.descriptor.specs.Text.{Put, Printed, entryLine, Printable, Listing};
 use crate::load;
+use crate::mask_bytes;
 use crate::rows::CLASSES;
 use crate::rows::ROWS;
 use crate::step::Stepped;
 use crate::step::step;
-use crate::walk::mask_bytes;
 use rules::Loaded;
 use rules::Refusal;
 use rules::State;

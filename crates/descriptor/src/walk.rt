@@ -60,16 +60,6 @@ pub fn in_limits(count: usize, rw: &[u8], ro: &[u8]) -> bool
     (1 <= count) & ((count <= 15) & ((rw.len() <= 120) & (ro.len() <= 120)))
 }
 
-// A, the bytes of an application mask.
-pub fn mask_bytes(count: usize) -> usize
-    ensures { λ r. ⌜ (r ≡ maskBytes count) × (1 ≤ r) × (r ≤ 2) ⌝ }
-{
-    if count <= 8 {
-        return 1;
-    }
-    2
-}
-
 // A walk that was refused refuses the load.
 pub fn refused(w: Walked) -> Loaded
     ensures { λ r. ⌜ r ≡ after w (λ st. rejected (plain 0)) ⌝ }

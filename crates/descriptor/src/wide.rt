@@ -1,34 +1,15 @@
-// The wide reading of one entry: all of its bytes, by name. The walks read less; this is for the one entry that a call is about.
+// The reading of the one entry that a call is about: what the call needs of it. The walks read less.
 ghost use mathlib.Core.Path.{_≡_};
-ghost use Prim.Native.Nat.{_≤_, _<_};
-ghost use Rattle.rules.specs.Descriptor.{byteAt, highFirst, entryAt};
+ghost use Prim.Native.Nat.{_≤_};
+ghost use Rattle.rules.specs.Descriptor.{entryAt};
+ghost use Rattle.descriptor.specs.Rows.{classes, rows};
 ghost use Rattle.descriptor.specs.Steps.{stepBy};
 ghost use Rattle.descriptor.specs.Wide.{codesBy, standingAt};
-use crate::rows::CLASSES;
-use crate::rows::ROWS;
+ghost use Rattle.descriptor.specs.Find.{entryIn};
+use crate::Found;
+use crate::pair_from;
 use crate::rows::row_of;
 use crate::step::byte_at;
-use rules::Entry;
-
-// A byte of a string as a number, 0 past its end.
-fn number_at(s: &[u8], i: usize) -> usize
-    ensures { λ r. ⌜ (r ≡ byteAt (now (s .entry)) i) × (r < 256) ⌝ }
-{
-    let byte = byte_at(s, i);
-    byte as usize
-}
-
-// One or two bytes as one number, high byte first.
-fn high_first(s: &[u8], at: usize, n: usize) -> usize
-    requires { ⌜ (1 ≤ n) × (n ≤ 2) × (at ≤ 1000) ⌝ }
-    ensures { λ r. ⌜ r ≡ highFirst (now (s .entry)) at n ⌝ }
-{
-    let high = number_at(s, at);
-    if n == 1 {
-        return high;
-    }
-    high * 256 + number_at(s, at + 1)
-}
 
 // The code mask of an entry whose extras begin at a place, 0 where its ID has none.
 fn codes_at(extras: u32, s: &[u8], at: usize) -> usize
@@ -36,10 +17,10 @@ fn codes_at(extras: u32, s: &[u8], at: usize) -> usize
     ensures { λ r. ⌜ r ≡ codesBy extras (now (s .entry)) at ⌝ }
 {
     if extras == 1 {
-        return high_first(s, at, 2);
+        return pair_from(s, at);
     }
     if extras == 2 {
-        return high_first(s, at + 1, 2);
+        return pair_from(s, at + 1);
     }
     0
 }
@@ -55,26 +36,28 @@ fn step_at(extras: u32, s: &[u8], at: usize) -> u8
     0
 }
 
-// The entry that starts at a place of a string, with its offset in a set.
-pub fn entry_at(a: usize, s: &[u8], start: usize, offset: usize) -> Entry
-    requires { ⌜ (1 ≤ a) × (a ≤ 2) × (start ≤ 120) ⌝ }
-    ensures { λ r. ⌜ r ≡ entryAt a (now (s .entry)) (standingAt start offset) ⌝ }
+// What a call needs of the entry at a place of a string. With the rows lent it is small enough to be inlined for both strings.
+pub fn found_at(
+    table: &[u8; 19],
+    lines: &[u32; 10],
+    in_ro: bool,
+    a: usize,
+    s: &[u8],
+    start: usize,
+    offset: usize,
+) -> Found
+    requires { ⌜ (now table ≡ classes) × (now lines ≡ rows) × (a ≤ 2) × (start ≤ 120) ⌝ }
+    ensures { λ r. ⌜ r ≡ entryIn in_ro (entryAt a (now (s .entry)) (standingAt start offset)) ⌝ }
 {
-    let classes = CLASSES;
-    let table = ROWS;
     let id = byte_at(s, start);
-    let row = row_of(&classes, &table, id);
-    let flags = byte_at(s, start + 3 + a);
-    let step = step_at(row / 0x10000000, s, start + 4 + a);
-    Entry {
+    let extras = row_of(table, lines, id) / 0x10000000;
+    let at = start + 4 + a;
+    let step = step_at(extras, s, at);
+    Found::In {
+        ro: in_ro,
         id: id as usize,
-        start,
-        length: number_at(s, start + 1),
-        mask: high_first(s, start + 2, a),
-        memory: number_at(s, start + 2 + a),
-        media: (0 < row / 0x100000 % 16) & (flags % 2 == 1),
-        codes: codes_at(row / 0x10000000, s, start + 4 + a),
-        step: step as usize,
         offset,
+        codes: codes_at(extras, s, at),
+        step: step as usize,
     }
 }

@@ -29,9 +29,12 @@ pub fn place(
         Found::Refused(r) => Placed::Refused(r),
         Found::In {
             ro: in_ro,
-            entry: e,
+            id,
+            offset,
+            codes: _,
+            step: _,
         } => {
-            let shape = shape_of(e.id);
+            let shape = shape_of(id);
             if !((set < 3) & ((part < shape.parts) & ((1 <= lane) & (lane <= 8)))) {
                 return Placed::Refused(Refusal::Plain(10));
             }
@@ -40,7 +43,7 @@ pub fn place(
             }
             let first = (lane - 1) * shape.width;
             Placed::At {
-                byte: e.offset + part * shape.width + first / 8,
+                byte: offset + part * shape.width + first / 8,
                 bit: first % 8,
             }
         }

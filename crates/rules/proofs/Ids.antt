@@ -11,7 +11,7 @@ abbrev pub below : ℕ → (ℕ → Bool) → Bool
 below zero f = true
 below (suc n) f = f n && below n f
 
-below-at : (n : ℕ) (f : ℕ → Bool) → T (below n f) → (k : ℕ) → k < n → T (f k)
+pub below-at : (n : ℕ) (f : ℕ → Bool) → T (below n f) → (k : ℕ) → k < n → T (f k)
 below-at zero f t k l = absurd (omega arith)
 below-at (suc n) f t k l = go (ℕ-discrete k n) (below-at n f (and₂ (f n) (below n f) t .1) k)
   where

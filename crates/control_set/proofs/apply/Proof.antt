@@ -12,6 +12,7 @@ use Rattle.rules.specs.declared.Call.{Call}
 use Rattle.rules.specs.Place.{isSet}
 use Rattle.rules.proofs.Steps.{meets}
 use Rattle.control_set.specs.Gate.{Opened}
+use Rattle.control_set.specs.Plan.{Asked, Listed}
 use Rattle.control_set.proofs.Ways.{call-shut}
 use Rattle.control_set.proofs.Applies.{apply-asked, apply-listed, apply-10, apply-11, apply-13, apply-14, apply-done}
 use Rattle.control_set.proofs.apply.Statement.{statement}
@@ -54,30 +55,43 @@ returns-2 c =
     let g = u .before .before .before .before .before .before .before .args in
     meets (apply-11 (g .count) (now (g .rw)) (now (g .ro)) (g .set) (g .lanes) (now (g .bank)) (opened u) (there (c .before)) (eq-eqb _ 2 (c .if2 .taken))) refl refl
 
-lowest-lacking-requires : tie.Need-lowest-lacking-requires
-lowest-lacking-requires c κs =
-    let e = c .before in
-    let u = e .before .before in
+-- the bank that is asked of
+asked : (c : tie.Else2) →
+    let g = c .before .before .before .before .before .before .before .before .before .args in
+    Asked (record { count = g .count; set = g .set; lanes = g .lanes }) (now (g .bank))
+asked c =
+    let u = c .before .before in
     let g = u .before .before .before .before .before .before .before .args in
-    apply-asked (g .count) (now (g .rw)) (now (g .ro)) (g .set) (g .lanes) (now (g .bank)) (opened u) (staged e)
+    apply-asked (g .count) (now (g .rw)) (now (g .ro)) (g .set) (g .lanes) (now (g .bank)) (opened u) (staged c)
+
+listed : (c : tie.Else2) →
+    let u = c .before .before in
+    let g = u .before .before .before .before .before .before .before .args in
+    Listed (g .count) (now (g .rw)) (u .before .g2 .given .0 .0)
+listed c =
+    let u = c .before .before in
+    let g = u .before .before .before .before .before .before .before .args in
+    apply-listed (g .count) (now (g .rw)) (now (g .ro)) (g .set) (g .lanes) (now (g .bank)) (opened u)
+
+wanted-requires : tie.Need-wanted-requires
+wanted-requires c κs = asked (c .before)
+
+lowest-lacking-requires : tie.Need-lowest-lacking-requires
+lowest-lacking-requires c κs = asked (c .before .before .before)
 
 lowest-bad-requires : tie.Need-lowest-bad-requires
 lowest-bad-requires c κs =
-    let e = c .before .before .before in
-    let u = e .before .before in
-    let g = u .before .before .before .before .before .before .before .args in
-    let o = opened u in (
-      apply-asked (g .count) (now (g .rw)) (now (g .ro)) (g .set) (g .lanes) (now (g .bank)) o (staged e),
-      apply-listed (g .count) (now (g .rw)) (now (g .ro)) (g .set) (g .lanes) (now (g .bank)) o,
-    )
+    let w = c .before .before .before .before .before in
+    let e = w .before .before in
+    ((record { classes-are = refl; rows-are = refl }, listed e), (asked e, w .wanted .ensures))
 
 same-length : tie.Need-same-length
 same-length c = search needs
 
 returns-3 : tie.Need-returns-3
 returns-3 c =
-    let k = c .before .before .before in
-    let e = k .before .before in
+    let k = c .before .before .before .before .before in
+    let e = k .before .before .before .before in
     let u = e .before .before in
     let g = u .before .before .before .before .before .before .before .args in
     meets (apply-13 (g .count) (now (g .rw)) (now (g .ro)) (g .set) (g .lanes) (now (g .bank)) (opened u) (there (e .before)) (may e) (k .lowest-lacking .ensures) (c .if3 .taken)) refl refl
@@ -89,8 +103,8 @@ returns-4 : tie.Need-returns-4
 returns-4 c =
     let x = c .before in
     let y = x .before in
-    let k = y .before .before in
-    let e = k .before .before in
+    let k = y .before .before .before .before in
+    let e = k .before .before .before .before in
     let u = e .before .before in
     let g = u .before .before .before .before .before .before .before .args in
     meets
@@ -101,13 +115,12 @@ returns-4 c =
 
 copy-all-requires : tie.Need-copy-all-requires
 copy-all-requires c κs =
-    let e = c .before .before .before .before .before .before .before in
-    let u = e .before .before in
-    let g = u .before .before .before .before .before .before .before .args in
-    let o = opened u in (
-      apply-asked (g .count) (now (g .rw)) (now (g .ro)) (g .set) (g .lanes) (now (g .bank)) o (staged e),
-      apply-listed (g .count) (now (g .rw)) (now (g .ro)) (g .set) (g .lanes) (now (g .bank)) o,
-    )
+    let x = c .before .before .before .before in
+    let k = x .before .before .before .before .before in
+    let w = k .before .before in
+    let e = w .before .before in
+    let q : k .lowest-lacking .result ≡ 9 = x .if3 .left in
+    ((record { classes-are = refl; rows-are = refl }, listed e), (asked e, w .wanted .ensures, λ i l h. k .lowest-lacking .ensures .below i l (omega (arith, q))))
 
 returns-5 : tie.Need-returns-5
 returns-5 c =
@@ -121,11 +134,11 @@ same-length-3 c = search needs
 returns-6 : tie.Need-returns-6
 returns-6 c =
     let l = c .before .before in
-    let z = l .before .before in
+    let z = l .before .before .before .before in
     let x = z .before in
     let y = x .before in
-    let k = y .before .before in
-    let e = k .before .before in
+    let k = y .before .before .before .before in
+    let e = k .before .before .before .before in
     let u = e .before .before in
     let g = u .before .before .before .before .before .before .before .args in
     meets
@@ -143,6 +156,7 @@ apply-spec =
     enum-known-g-2
     returns
     returns-2
+    wanted-requires
     lowest-lacking-requires
     lowest-bad-requires
     same-length

@@ -1,6 +1,6 @@
 -- `read` meets its contract: each of its tests is the rules' test of that number.
 use borrow.Author.Needs.{needs}
-use mathlib.Core.Path.{_≡_, refl, sym, ap, _∙_}
+use mathlib.Core.Path.{_≡_, refl, ap, _∙_}
 use mathlib.Core.Bool.{true, false}
 use lib.ListN.{length}
 use native.Mathlib.Omega.{arith}
@@ -9,7 +9,6 @@ use denote.Ref.{now}
 use borrow.Author.Tests.{not-true, not-false}
 use Rattle.rules.specs.declared.Call.{Call}
 use Rattle.rules.specs.declared.Answer.{Answer}
-use Rattle.rules.specs.Place.{signedOf}
 use Rattle.rules.specs.Accept.{fromBits}
 use Rattle.rules.specs.Load.{mapOf}
 use Rattle.rules.specs.Refuse.{exists, misdirected, unaccepted}
@@ -18,8 +17,8 @@ use Rattle.rules.proofs.Steps.{meets}
 use Rattle.rules.proofs.Places.{Field}
 use Rattle.control_set.specs.Gate.{Entered}
 use Rattle.control_set.proofs.Ways.{call-10, call-11, call-done}
-use Rattle.control_set.proofs.Spots.{spot-room, bits-at-lt, number-field}
-use Rattle.control_set.proofs.Enters.{entered-opened, width-is, call-unfound, no-read, read-tested, read-directed, read-there, spot-there}
+use Rattle.control_set.proofs.Spots.{spot-room, bits-at-lt}
+use Rattle.control_set.proofs.Enters.{entered-opened, call-unfound, no-read, read-tested, read-directed, read-there, spot-there, number-there}
 use Rattle.control_set.proofs.read.Statement.{statement}
 use Rattle.control_set.proofs.read.Tie as tie
 
@@ -27,7 +26,7 @@ use Rattle.control_set.proofs.read.Tie as tie
 entered : (c : tie.After-known-told) →
     let g = c .before .before .before .before .before .before .before .args in
     let x = c .before .found .given .0 in
-    Entered (g .count) (now (g .rw)) (now (g .ro)) (length (now (g .bank))) (g .entry) (x .0) (x .1 .0)
+    Entered (g .count) (now (g .rw)) (now (g .ro)) (length (now (g .bank))) (g .entry) (x .0) (x .1 .0) (x .1 .1 .0) (x .1 .1 .1 .0) (x .1 .1 .1 .1 .0)
 entered c = rw (c .before .found .given .1) at (c .before .before .before .admit-entry .ensures)
 
 -- what is passed: 10 and 11
@@ -103,14 +102,14 @@ number-of-requires c κs =
     (r .some, omega (arith, r .room), rw (c .before .read-field .ensures) (bits-at-lt (now (g .bank)) _ _ _ _ _))
 
 returns-4 : tie.Need-returns-4
-unfolding unaccepted bankPlan bankDoes signedOf
+unfolding unaccepted bankPlan bankDoes
 returns-4 c =
     let f = c .before .before in
     let e = f .before in
     let k = e .before .before .before in
     let g = k .before .before .before .before .before .before .before .before .args in
     let t = entered (k .before) in
-    let n = toZ-ofZ (record { sfits = c .number-of .ok }) ∙ c .number-of .ensures ∙ ap (fromBits _ _) (f .read-field .ensures) ∙ number-field (mapOf (g .count) (now (g .rw)) (now (g .ro))) (now (g .bank)) (g .set) (g .entry) (g .part) (g .lane) _ (sym (t .is)) _ (width-is (g .count) (now (g .rw)) (now (g .ro)) (now (g .bank)) t (k .shape-of .ensures .0)) _ (c .before .signed .ensures) in
+    let n = toZ-ofZ (record { sfits = c .number-of .ok }) ∙ c .number-of .ensures ∙ ap (fromBits _ _) (f .read-field .ensures) ∙ number-there (g .count) (now (g .rw)) (now (g .ro)) (now (g .bank)) t (k .shape-of .ensures .0) (g .set) (g .part) (g .lane) _ (c .before .signed .ensures) in
     meets (call-done (g .count) (now (g .rw)) (now (g .ro)) (Call.Read (g .set) (g .entry) (g .part) (g .lane)) (now (g .bank)) (entered-opened (g .count) (now (g .rw)) (now (g .ro)) (now (g .bank)) t) (there (e .before)) (may e) refl refl) (ap Answer.Number n) refl .0
 
 pub read-spec : {M : Type 1} → statement M

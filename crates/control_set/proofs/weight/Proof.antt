@@ -23,14 +23,14 @@ use Rattle.control_set.proofs.weight.Tie as tie
 entered : (c : tie.After-known-told) →
     let g = c .before .before .before .before .before .before .before .args in
     let x = c .before .found .given .0 in
-    Entered (g .count) (now (g .rw)) (now (g .ro)) (length (now (g .bank))) (g .entry) (x .0) (x .1 .0)
+    Entered (g .count) (now (g .rw)) (now (g .ro)) (length (now (g .bank))) (g .entry) (x .0) (x .1 .0) (x .1 .1 .0) (x .1 .1 .1 .0) (x .1 .1 .1 .1 .0)
 entered c = rw (c .before .found .given .1) at (c .before .before .before .admit-entry .ensures)
 
 -- the number of its bits, as the machine hands it on
 numbered : (c : tie.After-number-of) →
-    let g = c .before .before .before .before .before .before .before .before .before .before .before .args in
-    let x = c .before .before .before .before .before .found .given .0 in
-    toZ w64 (ofZ w64 (c .number-of .result)) ≡ fromBits true 8 (bitsAt (now (g .bank)) 2 (x .1 .0 .offset) 0 8 (g .lane))
+    let g = c .before .before .before .before .before .before .before .before .before .before .args in
+    let x = c .before .before .before .before .found .given .0 in
+    toZ w64 (ofZ w64 (c .number-of .result)) ≡ fromBits true 8 (bitsAt (now (g .bank)) 2 (x .1 .1 .0) 0 8 (g .lane))
 numbered c = toZ-ofZ (record { sfits = c .number-of .ok }) ∙ c .number-of .ensures ∙ ap (fromBits true 8) (c .before .read-field .ensures)
 
 admit-entry-requires : tie.Need-admit-entry-requires
@@ -53,13 +53,13 @@ returns c =
 
 returns-2 : tie.Need-returns-2
 returns-2 c =
-    let t = c .before .before in
+    let t = c .before in
     let g = t .before .before .before .before .before .before .before .args in
     weight-10 (g .count) (now (g .rw)) (now (g .ro)) (now (g .bank)) (g .entry) (g .lane) (entered t) (not-true _ (c .if1 .taken))
 
 read-field-requires : tie.Need-read-field-requires
 read-field-requires c κs =
-    let t = c .before .before in
+    let t = c .before in
     let g = t .before .before .before .before .before .before .before .args in
     weight-spot (g .count) (now (g .rw)) (now (g .ro)) (now (g .bank)) (g .entry) (g .lane) (entered t) (not-false _ (c .if1 .left))
 
@@ -68,14 +68,14 @@ number-of-requires c κs = search needs
 
 weight-of-requires : tie.Need-weight-of-requires
 weight-of-requires c κs =
-    let g = c .before .before .before .before .before .before .before .before .before .before .before .args in
-    let x = c .before .before .before .before .before .found .given .0 in
-    rw (numbered c) (number-bits true 8 _ (omega arith) (bits-at-lt (now (g .bank)) 2 (x .1 .0 .offset) 0 8 (g .lane)))
+    let g = c .before .before .before .before .before .before .before .before .before .before .args in
+    let x = c .before .before .before .before .found .given .0 in
+    rw (numbered c) (number-bits true 8 _ (omega arith) (bits-at-lt (now (g .bank)) 2 (x .1 .1 .0) 0 8 (g .lane)))
 
 returns-3 : tie.Need-returns-3
 returns-3 c =
     let e = c .before .before .before in
-    let t = e .before .before in
+    let t = e .before in
     let g = t .before .before .before .before .before .before .before .args in
     let w = rw (numbered (c .before)) at (c .weight-of .ensures) in
     ap Answer.Number (toZ-ofZ (record { sfits = c .weight-of .ok }) ∙ w) ∙ weight-is (g .count) (now (g .rw)) (now (g .ro)) (now (g .bank)) (g .entry) (g .lane) (entered t) (not-false _ (e .if1 .left))

@@ -17,8 +17,7 @@ use Rattle.rules.proofs.Places.{Field}
 use Rattle.control_set.specs.Values.{acceptsBy}
 use Rattle.control_set.specs.Gate.{Entered}
 use Rattle.control_set.proofs.Ways.{call-10, call-11, call-12, call-done}
-use Rattle.control_set.proofs.Spots.{with-number}
-use Rattle.control_set.proofs.Enters.{entered-opened, width-is, call-unfound, no-write, write-tested, write-directed, write-there, spot-there, value-tested, value-bits}
+use Rattle.control_set.proofs.Enters.{entered-opened, call-unfound, no-write, write-tested, write-directed, write-there, spot-there, stored-there, value-tested, value-bits}
 use Rattle.control_set.proofs.write.Statement.{statement}
 use Rattle.control_set.proofs.write.Tie as tie
 
@@ -26,14 +25,14 @@ use Rattle.control_set.proofs.write.Tie as tie
 entered : (c : tie.After-known-told) →
     let g = c .before .before .before .before .before .before .before .args in
     let x = c .before .found .given .0 in
-    Entered (g .count) (now (g .rw)) (now (g .ro)) (length (now (g .bank))) (g .entry) (x .0) (x .1 .0)
+    Entered (g .count) (now (g .rw)) (now (g .ro)) (length (now (g .bank))) (g .entry) (x .0) (x .1 .0) (x .1 .1 .0) (x .1 .1 .1 .0) (x .1 .1 .1 .1 .0)
 entered c = rw (c .before .found .given .1) at (c .before .before .before .admit-entry .ensures)
 
 -- the value, as the machine hands it on
 plain : (c : tie.Start) → toZ w64 (ofZ w64 (c .args .value)) ≡ c .args .value
 plain c = toZ-ofZ (c .fits .value)
 
-accepted : (c : tie.After-accepts) → let x = c .before .before .before .before .before .before .found .given .0 in c .accepts .result ≡ acceptsBy (x .1 .0 .id) (x .1 .0 .codes) (c .before .before .before .before .before .before .before .before .before .before .before .before .args .value)
+accepted : (c : tie.After-accepts) → let x = c .before .before .before .before .before .before .found .given .0 in c .accepts .result ≡ acceptsBy (x .1 .0) (x .1 .1 .1 .0) (c .before .before .before .before .before .before .before .before .before .before .before .before .args .value)
 accepted c = rw (plain (c .before .before .before .before .before .before .before .before .before .before .before .before)) at (c .accepts .ensures)
 
 -- what is passed: 10 and 11, then 12
@@ -141,7 +140,7 @@ returns-5 c =
     meets
     (call-done (g .count) (now (g .rw)) (now (g .ro)) (Call.Write (g .set) (g .entry) (g .part) (g .lane) (g .value)) (now (g .bank)) (entered-opened (g .count) (now (g .rw)) (now (g .ro)) (now (g .bank)) t) (there (e .before .before .before)) (may (e .before .before)) (fine e) refl)
     refl
-    (w .write-field .ensures ∙ rw (w .before .before .bits-of .ensures .0, plain (k .before .before .before .before .before .before .before .before)) (with-number (mapOf (g .count) (now (g .rw)) (now (g .ro))) (now (g .bank)) (g .set) (g .entry) (g .part) (g .lane) _ (sym (t .is)) _ (width-is (g .count) (now (g .rw)) (now (g .ro)) (now (g .bank)) t (k .shape-of .ensures .0)) (g .value)))
+    (w .write-field .ensures ∙ rw (w .before .before .bits-of .ensures .0, plain (k .before .before .before .before .before .before .before .before)) (stored-there (g .count) (now (g .rw)) (now (g .ro)) (now (g .bank)) t (k .shape-of .ensures .0) (g .set) (g .part) (g .lane) (g .value)))
 
 pub write-spec : {M : Type 1} → statement M
 write-spec =

@@ -1,23 +1,62 @@
 -- `cover` meets its contract.
-use mathlib.Core.Path.{sym, _∙_}
-use Prim.Native.Nat.{_+_, _≤_}
+use mathlib.Core.Path.{_≡_, sym, _∙_}
+use mathlib.Core.Bool.{true, false}
+use Prim.Native.Nat.{_+_, _≤_, _<_}
 use native.Mathlib.Omega.{arith}
+use lib.ListN.{length}
 use denote.Ref.{now}
-use Rattle.descriptor.specs.Cover.{Looking}
-use Rattle.descriptor.proofs.Covers.{cover-rejected, cover-accepted, looking}
+use Rattle.rules.specs.declared.Loaded.the-variants.{Accepted as accepted}
+use Rattle.rules.specs.Descriptor.{maskBytes, byteAt}
+use Rattle.rules.specs.Load.{loadOf}
+use Rattle.descriptor.specs.declared.Covered.the-variants.{By as by}
+use Rattle.descriptor.specs.Cover.{coverOf, Hits}
+use Rattle.descriptor.proofs.Covers.{cover-rejected, seeks-first, seeks-last, covers-first, past-first, covers-last, covers-none}
 use borrow.Author.Needs.{needs}
 use Rattle.descriptor.proofs.cover.Statement.{statement}
 use Rattle.descriptor.proofs.cover.Tie as tie
 
--- the counts of an accepted load, in the numbers that the match binds
-counts : (c : tie.After-known-told2) →
+-- an accepted load, in the numbers that the match binds
+loads : (c : tie.After-known-told2) →
     let g = c .before .before .before .before .before .before .args in
     let x = c .before .loaded2 .given .0 in
-    Looking (g .count) (now (g .rw)) (now (g .ro)) (x .0) (x .0 + x .1 .0) × (x .0 + x .1 .0 ≤ 240)
-counts c =
-    let k = c .before .before .before in
-    let g = k .before .before .before .args in
-    looking (g .count) (now (g .rw)) (now (g .ro)) (g .offset) _ _ _ _ (sym (k .load .ensures) ∙ c .before .loaded2 .given .1)
+    loadOf (g .count) (now (g .rw)) (now (g .ro)) ≡ accepted (x .0) (x .1 .0) (x .1 .1 .0) (x .1 .1 .1 .0)
+loads c = sym (c .before .before .before .load .ensures) ∙ c .before .loaded2 .given .1
+
+-- where the searches end
+first : (c : tie.After-look) →
+    let k = c .before .before in
+    let g = k .before .before .before .before .before .before .args in
+    Hits (maskBytes (g .count)) (now (g .rw)) 0 (k .before .loaded2 .given .0 .0) (g .offset) (c .look .result)
+first c = rw (← c .before .mask-bytes .ensures .0) (c .look .ensures)
+
+last : (c : tie.After-look2) →
+    let k = c .before .before .before .before .before in
+    let g = k .before .before .before .before .before .before .args in
+    let x = k .before .loaded2 .given .0 in
+    Hits (maskBytes (g .count)) (now (g .ro)) (x .1 .1 .0) (x .1 .0) (g .offset) (c .look2 .result)
+last c = rw (← c .before .before .before .before .mask-bytes .ensures .0) (c .look2 .ensures)
+
+-- the entry that covers the byte
+in-first : (c : tie.Then1) →
+    let k = c .before .before .before .before in
+    let g = k .before .before .before .before .before .before .args in
+    let h = c .before .before .look .result in
+    (h .at < length (now (g .rw))) × (by false (h .number) (byteAt (now (g .rw)) (h .at)) (h .sum) ≡ coverOf (g .count) (now (g .rw)) (now (g .ro)) (g .offset))
+in-first c =
+    let k = c .before .before .before .before in
+    let g = k .before .before .before .before .before .before .args in
+    covers-first (g .count) (now (g .rw)) (now (g .ro)) (g .offset) _ _ _ _ (loads k) (first (c .before .before)) (c .if1 .taken)
+
+in-last : (c : tie.Then2) →
+    let k = c .before .before .before .before .before .before .before in
+    let g = k .before .before .before .before .before .before .args in
+    let h = c .before .before .look2 .result in
+    let e = k .before .loaded2 .given .0 .0 + h .number in
+    (h .at < length (now (g .ro))) × (by true e (byteAt (now (g .ro)) (h .at)) (h .sum) ≡ coverOf (g .count) (now (g .rw)) (now (g .ro)) (g .offset)) × (e ≤ 240)
+in-last c =
+    let k = c .before .before .before .before .before .before .before in
+    let g = k .before .before .before .before .before .before .args in
+    covers-last (g .count) (now (g .rw)) (now (g .ro)) (g .offset) _ _ _ _ (loads k) (last (c .before .before)) (c .if2 .taken)
 
 load-requires : tie.Need-load-requires
 load-requires c κs = search needs
@@ -28,22 +67,58 @@ enum-known-loaded c = search needs
 enum-known-loaded-2 : tie.Need-enum-known-loaded-2
 enum-known-loaded-2 c = search needs
 
-add-look : tie.Need-add-look
-add-look c = omega (arith, counts c .1)
+mask-bytes-requires : tie.Need-mask-bytes-requires
+mask-bytes-requires c κs = search needs
 
 look-requires : tie.Need-look-requires
-look-requires c κs = counts c .0
+look-requires c κs =
+    let k = c .before in
+    let g = k .before .before .before .before .before .before .args in
+    (rw (c .mask-bytes .ensures .0) (seeks-first (g .count) (now (g .rw)) (now (g .ro)) (g .offset) _ _ _ _ (loads k)), omega arith)
+
+shared-slice-read-t18 : tie.Need-shared-slice-read-t18
+shared-slice-read-t18 c = in-first (c .before) .0
+
+cast-t19 : tie.Need-cast-t19
+cast-t19 c = omega (arith, c .shared-slice-known3 .given (c .before .before .before .look .result .at) .fits)
 
 returns : tie.Need-returns
-returns c =
+returns c = in-first (c .before) .1
+
+look-requires-2 : tie.Need-look-requires-2
+look-requires-2 c κs =
+    let l = c .before .before in
+    let m = l .before in
+    let k = m .before in
+    let g = k .before .before .before .before .before .before .args in (
+      rw (m .mask-bytes .ensures .0) (seeks-last (g .count) (now (g .rw)) (now (g .ro)) (g .offset) _ _ _ _ (loads k)),
+      past-first (g .count) (now (g .rw)) (now (g .ro)) (g .offset) _ _ _ _ (loads k) (first l) (c .if1 .left),
+    )
+
+add-t20 : tie.Need-add-t20
+add-t20 c = omega (arith, in-last (c .before) .2)
+
+shared-slice-read-t22 : tie.Need-shared-slice-read-t22
+shared-slice-read-t22 c = in-last (c .before .before) .0
+
+cast-t23 : tie.Need-cast-t23
+cast-t23 c = omega (arith, c .shared-slice-known4 .given (c .before .before .before .before .look2 .result .at) .fits)
+
+returns-2 : tie.Need-returns-2
+returns-2 c = in-last (c .before .before) .1
+
+returns-3 : tie.Need-returns-3
+returns-3 c =
     let k = c .before .before .before in
     let g = k .before .before .before .args in
     cover-rejected (g .count) (now (g .rw)) (now (g .ro)) (g .offset) _ (sym (k .load .ensures) ∙ c .before .loaded .given .1)
 
-returns-2 : tie.Need-returns-2
-returns-2 c =
-    let g = c .before .before .before .before .before .before .before .args in
-    c .look .ensures ∙ cover-accepted (g .count) (now (g .rw)) (now (g .ro)) (g .offset) (counts (c .before) .0 .accepted)
+returns-4 : tie.Need-returns-4
+returns-4 c =
+    let l = c .before .before in
+    let k = l .before .before .before .before .before in
+    let g = k .before .before .before .before .before .before .args in
+    covers-none (g .count) (now (g .rw)) (now (g .ro)) (g .offset) _ _ _ _ (loads k) (last l) (c .if2 .left)
 
 pub cover-spec : {M : Type 1} → statement M
 cover-spec =
@@ -52,7 +127,15 @@ cover-spec =
     load-requires
     enum-known-loaded
     enum-known-loaded-2
-    add-look
+    mask-bytes-requires
     look-requires
+    shared-slice-read-t18
+    cast-t19
     returns
-    returns-2)
+    look-requires-2
+    add-t20
+    shared-slice-read-t22
+    cast-t23
+    returns-2
+    returns-3
+    returns-4)

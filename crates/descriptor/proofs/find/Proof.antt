@@ -1,12 +1,11 @@
 -- `find` meets its contract.
-use mathlib.Core.Path.{_≡_, sym, _∙_}
+use mathlib.Core.Path.{_≡_, refl, sym, _∙_}
 use mathlib.Core.Bool.{cond}
 use Prim.Native.Nat.{_≤_}
 use denote.Ref.{now}
 use Rattle.rules.specs.Descriptor.{maskBytes, entryAt}
-use Rattle.descriptor.specs.declared.Found.the-variants.{In as isIn}
 use Rattle.descriptor.specs.Wide.{standingAt}
-use Rattle.descriptor.specs.Find.{foundOf}
+use Rattle.descriptor.specs.Find.{entryIn, foundOf}
 use Rattle.descriptor.proofs.Finds.{located-refused-found, located-found}
 use borrow.Author.Needs.{needs}
 use Rattle.descriptor.proofs.find.Statement.{statement}
@@ -16,7 +15,7 @@ use Rattle.descriptor.proofs.find.Tie as tie
 reads : (c : tie.After-known-told2) →
     let g = c .before .before .before .before .before .before .args in
     let x = c .before .place2 .given .0 in
-    (isIn (x .0) (entryAt (maskBytes (g .count)) (cond (x .0) (now (g .ro)) (now (g .rw))) (standingAt (x .1 .0) (x .1 .1 .1 .0))) ≡ foundOf (g .count) (now (g .rw)) (now (g .ro)) (g .entry))
+    (entryIn (x .0) (entryAt (maskBytes (g .count)) (cond (x .0) (now (g .ro)) (now (g .rw))) (standingAt (x .1 .0) (x .1 .1 .1 .0))) ≡ foundOf (g .count) (now (g .rw)) (now (g .ro)) (g .entry))
     × (x .1 .0 ≤ 120)
 reads c =
     let k = c .before .before .before in
@@ -35,14 +34,17 @@ enum-known-place-2 c = search needs
 mask-bytes-requires : tie.Need-mask-bytes-requires
 mask-bytes-requires c κs = search needs
 
-entry-at-requires : tie.Need-entry-at-requires
-entry-at-requires c κs = (c .before .mask-bytes .ensures .1, c .before .mask-bytes .ensures .2, reads (c .before .before) .1)
+found-at-requires : tie.Need-found-at-requires
+found-at-requires c κs = let m = c .before .before .before in (refl, refl, m .mask-bytes .ensures .2, reads (m .before) .1)
 
 returns : tie.Need-returns
-returns c = let m = c .before .before in rw (c .entry-at .ensures, m .mask-bytes .ensures .0) (rw (c .before .if1 .taken) at (reads (m .before) .0))
+returns c =
+    let t = c .before .before .before in
+    let m = t .before in
+    c .found-at .ensures ∙ rw (m .mask-bytes .ensures .0) (rw (t .if1 .taken) at (reads (m .before) .0))
 
-entry-at-requires-2 : tie.Need-entry-at-requires-2
-entry-at-requires-2 c κs = (c .before .mask-bytes .ensures .1, c .before .mask-bytes .ensures .2, reads (c .before .before) .1)
+found-at-requires-2 : tie.Need-found-at-requires-2
+found-at-requires-2 c κs = let m = c .before .before .before in (refl, refl, m .mask-bytes .ensures .2, reads (m .before) .1)
 
 returns-2 : tie.Need-returns-2
 returns-2 c =
@@ -51,7 +53,10 @@ returns-2 c =
     located-refused-found (g .count) (now (g .rw)) (now (g .ro)) (g .entry) _ (sym (k .locate .ensures) ∙ c .before .place .given .1)
 
 returns-3 : tie.Need-returns-3
-returns-3 c = let m = c .before .before in rw (c .entry-at2 .ensures, m .mask-bytes .ensures .0) (rw (c .before .if1 .left) at (reads (m .before) .0))
+returns-3 c =
+    let t = c .before .before .before in
+    let m = t .before in
+    c .found-at2 .ensures ∙ rw (m .mask-bytes .ensures .0) (rw (t .if1 .left) at (reads (m .before) .0))
 
 pub find-spec : {M : Type 1} → statement M
 find-spec =
@@ -61,8 +66,8 @@ find-spec =
     enum-known-place
     enum-known-place-2
     mask-bytes-requires
-    entry-at-requires
+    found-at-requires
     returns
-    entry-at-requires-2
+    found-at-requires-2
     returns-2
     returns-3)

@@ -16,15 +16,15 @@ use Rattle.placement.proofs.place.Tie as tie
 in-map : (c : tie.After-known-told2) →
     let g = c .before .before .before .before .before .before .args in
     let x = c .before .found2 .given .0 in
-    InMap (g .count) (now (g .rw)) (now (g .ro)) (g .entry) (x .0) (x .1 .0)
+    InMap (g .count) (now (g .rw)) (now (g .ro)) (g .entry) (x .0) (x .1 .0) (x .1 .1 .0) (x .1 .1 .1 .0) (x .1 .1 .1 .1 .0)
 in-map c =
     let k = c .before .before .before in
     let g = k .before .before .before .args in
-    found-in (g .count) (now (g .rw)) (now (g .ro)) (g .entry) _ _ (sym (k .find .ensures) ∙ c .before .found2 .given .1)
+    found-in (g .count) (now (g .rw)) (now (g .ro)) (g .entry) _ _ _ _ _ (sym (k .find .ensures) ∙ c .before .found2 .given .1)
 
-offset : (c : tie.After-struct-known4) → let x = c .before .before .before .before .before .before .before .before .found2 .given .0 in x .1 .0 .offset ≤ 256
+offset : (c : tie.After-struct-known3) → let x = c .before .before .before .before .before .before .before .found2 .given .0 in x .1 .1 .0 ≤ 256
 offset c =
-    let k = c .before .before .before .before .before .before .before in
+    let k = c .before .before .before .before .before .before in
     let g = k .before .before .before .before .before .before .args in
     offset-small (g .count) (now (g .rw)) (now (g .ro)) (in-map k)
 
@@ -65,19 +65,19 @@ sub-first c = omega (arith, asked c)
 mul-first : tie.Need-mul-first
 mul-first c = product-fits _ _ (omega (arith, asked (c .before))) (c .before .before .before .before .shape-of .ensures .2)
 
-mul-t25 : tie.Need-mul-t25
-mul-t25 c =
+mul-t26 : tie.Need-mul-t26
+mul-t26 c =
     let e = c .before .before in
     product-fits _ _ (omega (arith, asked e .part)) (e .before .before .before .shape-of .ensures .2)
 
-add-t26 : tie.Need-add-t26
-add-t26 c =
-    let e = c .before .before .before in
+add-t27 : tie.Need-add-t27
+add-t27 c =
+    let e = c .before .before in
     part-fits _ _ _ (offset c) (omega (arith, asked e .part)) (e .before .before .before .shape-of .ensures .2)
 
-add-t28 : tie.Need-add-t28
-add-t28 c =
-    let e = c .before .before .before in
+add-t29 : tie.Need-add-t29
+add-t29 c =
+    let e = c .before .before in
     place-fits _ _ _ (offset c) (omega (arith, asked e .part)) (e .before .before .before .shape-of .ensures .2) _ (omega (arith, asked e))
 
 returns-3 : tie.Need-returns-3
@@ -89,7 +89,7 @@ returns-3 c =
 
 returns-4 : tie.Need-returns-4
 returns-4 c =
-    let e = c .before .before .before in
+    let e = c .before .before in
     let k = e .before .before .before in
     let g = k .before .before .before .before .before .before .before .args in
     placing-at (g .count) (now (g .rw)) (now (g .ro)) (in-map (k .before)) (k .shape-of .ensures .0) (g .set) (g .part) (g .lane) (not-false _ (e .before .if1 .left)) (e .if2 .left)
@@ -106,8 +106,8 @@ place-spec =
     returns-2
     sub-first
     mul-first
-    mul-t25
-    add-t26
-    add-t28
+    mul-t26
+    add-t27
+    add-t29
     returns-3
     returns-4)

@@ -1,10 +1,11 @@
 -- `allowed` meets its contract.
-use borrow.Author.Needs.{needs}
-use mathlib.Core.Path.{_≡_, refl}
+use mathlib.Core.Path.{_≡_, refl, sym, _∙_}
 use mir.Syntax.{w64}
 use mir.Val.{toZ, ofZ}
 use mir.Facts.{toZ-ofZ}
+use borrow.Author.Tests.{eq-eqb, ne-eqb}
 use Rattle.control_set.specs.Values.{allowedBy}
+use borrow.Author.Needs.{needs}
 use Rattle.control_set.proofs.accept.allowed.Statement.{statement}
 use Rattle.control_set.proofs.accept.allowed.Tie as tie
 
@@ -12,17 +13,34 @@ use Rattle.control_set.proofs.accept.allowed.Tie as tie
 plain : (c : tie.Start) → toZ w64 (ofZ w64 (c .args .value)) ≡ c .args .value
 plain c = toZ-ofZ (c .fits .value)
 
-in-ranges-requires : tie.Need-in-ranges-requires
-in-ranges-requires c κs = search needs
-
-in-mask-requires : tie.Need-in-mask-requires
-in-mask-requires c κs = search needs
+is-signed-requires : tie.Need-is-signed-requires
+is-signed-requires c κs = search needs
 
 returns : tie.Need-returns
 unfolding allowedBy
 returns c =
-    let s = c .before .before in
-    rw (c .before .in-ranges .ensures, c .in-mask .ensures, plain s) refl
+    let k = c .before in
+    rw (eq-eqb _ 8 (k .before .if1 .taken), sym (k .is-signed .ensures) ∙ c .if2 .taken, plain (k .before .before)) refl
+
+returns-2 : tie.Need-returns-2
+unfolding allowedBy
+returns-2 c =
+    let k = c .before in
+    rw (eq-eqb _ 8 (k .before .if1 .taken), sym (k .is-signed .ensures) ∙ c .if2 .left, plain (k .before .before)) refl
+
+listed-requires : tie.Need-listed-requires
+listed-requires c κs = search needs
+
+in-mask-requires : tie.Need-in-mask-requires
+in-mask-requires c κs = search needs
+
+returns-3 : tie.Need-returns-3
+unfolding allowedBy
+returns-3 c =
+    let k = c .before in
+    rw (ne-eqb _ 8 (k .before .if1 .left), c .in-mask .ensures, k .listed .ensures, plain (k .before .before)) refl
 
 pub allowed-spec : {M : Type 1} → statement M
-allowed-spec = tie.close (tie.spec in-ranges-requires in-mask-requires returns)
+allowed-spec =
+    tie.close
+    (tie.spec is-signed-requires returns returns-2 listed-requires in-mask-requires returns-3)

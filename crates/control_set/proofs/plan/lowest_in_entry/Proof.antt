@@ -1,4 +1,6 @@
 -- `lowest_in_entry` meets its contract.
+use lib.Bits.{bitAnd}
+use lib.Dec.{eqb}
 use mathlib.Core.Path.{_≡_}
 use Prim.Native.Nat.{_-_, _≤_}
 use native.Mathlib.Omega.{arith}
@@ -7,23 +9,31 @@ use borrow.Author.Needs.{needs}
 use Rattle.rules.specs.Numbers.{any}
 use Rattle.control_set.specs.Plan.{badAt, badIn, Least}
 use Rattle.control_set.proofs.Leasts.{any-none, any-more}
+use Rattle.control_set.proofs.Wanted.{passed-over, looked-at}
 use Rattle.control_set.proofs.plan.lowest_in_entry.Statement.{statement}
 use Rattle.control_set.proofs.plan.lowest_in_entry.Tie as tie
 
 abbrev Inv-loop : tie.InvT-loop
-Inv-loop chosen f top bank lowest₀ part₀ lowest part = (part ≤ f .parts) × Least top lowest (λ i. any part λ p. badAt chosen f bank p i)
+Inv-loop chosen apps f top bank lowest₀ part₀ lowest part = (part ≤ f .parts) × Least top lowest (λ i. any part λ p. badAt chosen f bank p i)
 
 abbrev μ-loop : tie.MeasureT-loop
-μ-loop chosen f top bank lowest₀ part₀ lowest part = f .parts - part
+μ-loop chosen apps f top bank lowest₀ part₀ lowest part = f .parts - part
+
+returns : tie.Need-returns Inv-loop μ-loop
+returns c =
+    let s = c .before .before .before .before in
+    passed-over (s .args .f) (s .args .apps) (s .args .top) (s .pre .0 .0) (s .pre .0 .2) (s .pre .1 .0) (s .pre .1 .1) (c .if1 .taken)
 
 loop-holds : tie.Need-loop-holds Inv-loop μ-loop
-loop-holds c = let s = c .before in (omega arith, any-none _ (λ p i. badAt (s .args .chosen) (s .args .f) (now (s .args .bank)) p i) (s .pre .1 .0))
+loop-holds c = let s = c .before .before .before .before in (omega arith, any-none _ (λ p i. badAt (s .args .chosen) (s .args .f) (now (s .args .bank)) p i) (s .pre .1 .0))
 
 lowest-in-part-requires : tie.Need-lowest-in-part-requires Inv-loop μ-loop
 lowest-in-part-requires c κs =
     let l = c .before .before in
-    let s = l .before .before in
-    (s .pre .0, (omega arith, l .loop .inv .1 .low, omega (arith, l .loop .inv .1 .le, s .pre .1 .1)))
+    let e = l .before in
+    let s = e .before .before .before .before in
+    let w = looked-at (s .args .f .width) (eqb (bitAnd (s .args .f .mask) (s .args .apps)) 0) (s .pre .0 .1 .whole (omega arith)) (e .if1 .left) in
+    ((s .pre .0 .0, s .pre .0 .1), (w, omega arith, l .loop .inv .1 .low, omega (arith, l .loop .inv .1 .le, s .pre .1 .1)))
 
 add-part : tie.Need-add-part Inv-loop μ-loop
 add-part c = search needs
@@ -34,14 +44,14 @@ loop-less c = search needs
 loop-again : tie.Need-loop-again Inv-loop μ-loop
 loop-again c =
     let l = c .before .before .before in
-    let g = l .before .before .args in
+    let g = l .before .before .before .before .before .args in
     (omega arith, any-more _ _ _ _ (λ p i. badAt (g .chosen) (g .f) (now (g .bank)) p i) (l .loop .inv .1) (c .lowest-in-part .ensures))
 
-returns : tie.Need-returns Inv-loop μ-loop
+returns-2 : tie.Need-returns-2 Inv-loop μ-loop
 unfolding badIn
-returns c =
+returns-2 c =
     let l = c .before .before in
-    let e : l .loop .part ≡ l .before .before .args .f .parts = omega (arith, l .loop .inv .0) in
+    let e : l .loop .part ≡ l .before .before .before .before .before .args .f .parts = omega (arith, l .loop .inv .0) in
     rw e at (l .loop .inv .1)
 
 pub lowest-in-entry-spec : {M : Type 1} → statement M
@@ -50,9 +60,10 @@ lowest-in-entry-spec =
     (tie.spec
     Inv-loop
     μ-loop
+    returns
     loop-holds
     lowest-in-part-requires
     add-part
     loop-less
     loop-again
-    returns)
+    returns-2)

@@ -3,8 +3,8 @@ use mathlib.Core.Path.{_≡_, sym, _∙_}
 use Prim.Native.Nat.{_-_, _≤_}
 use native.Mathlib.Omega.{arith}
 use borrow.Author.Needs.{needs}
-use Rattle.control_set.specs.Plan.{lacksBy}
-use Rattle.control_set.proofs.Leasts.{Clear, clear-none, clear-next, least-here, least-top}
+use Rattle.control_set.specs.Plan.{Clear, lacksBy}
+use Rattle.control_set.proofs.Leasts.{clear-none, clear-next, least-here, least-top}
 use Rattle.control_set.proofs.plan.lowest_lacking.Statement.{statement}
 use Rattle.control_set.proofs.plan.lowest_lacking.Tie as tie
 

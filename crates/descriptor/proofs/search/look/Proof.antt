@@ -1,96 +1,89 @@
 -- `look` meets its contract.
-use mathlib.Core.Path.{_≡_, _∙_}
-use lib.ListN.{length}
-use Rattle.rules.specs.declared.Entry.{Entry}
-use Rattle.rules.specs.Place.{entry}
-use borrow.Author.Needs.{needs}
-use Prim.Native.Nat.{_+_, _-_, _≤_, _<_}
+use mathlib.Core.Path.{_≡_, refl, ap}
+use Prim.Native.Nat.{ℕ, _+_, _-_, _≤_, _<_}
+use native.Mathlib.Numerals.{add-one}
 use native.Mathlib.Omega.{arith}
+use lib.ListN.{length, getD}
 use denote.Ref.{now}
-use Rattle.rules.specs.Load.{mapOf}
-use Rattle.descriptor.proofs.Looks.{Looked, looked-begin, looked-end, looked-head, looked-has, looked-small, looked-here, looked-next}
+use borrow.Author.Needs.{needs}
+use Rattle.descriptor.specs.Seek.{past, markAfter}
 use Rattle.descriptor.proofs.search.look.Statement.{statement}
 use Rattle.descriptor.proofs.search.look.Tie as tie
 
+-- so many entries are passed, and their spaces end at the byte or before it
 abbrev Inv-loop : tie.InvT-loop
-Inv-loop count rw ro rws all offset a number₀ at₀ sum₀ number at sum = Looked (mapOf count rw ro) offset number at sum
+Inv-loop a s sum n offset hit₀ hit = (hit .number ≤ n) × (markAfter a s sum (hit .number) ≡ record { at = hit .at; sum = hit .sum }) × (hit .sum ≤ offset)
 
 abbrev μ-loop : tie.MeasureT-loop
-μ-loop count rw ro rws all offset a number₀ at₀ sum₀ number at sum = all - number
+μ-loop a s sum n offset hit₀ hit = n - hit .number
 
--- the entry that a turn looks at
-there : (c : tie.In-loop Inv-loop μ-loop) →
-    let g = c .before .before .before .before .before .args in
-    c .before .loop .number < length (mapOf (g .count) (now (g .rw)) (now (g .ro)) .entries)
-there c = rw (c .before .before .before .before .before .pre .all-is) (c .loop-test .taken)
+-- the entry that a turn looks at is in the string, its space in a set
+inside : (c : tie.Then1 Inv-loop μ-loop) → let l = c .before .before in let g = l .before .args in l .loop .hit .at + 2 + g .a < length (now (g .s))
+inside c = let l = c .before .before in rw (l .loop .inv .1) at (l .before .pre .0 .inside (l .loop .hit .number) (c .if1 .taken))
 
-abbrev looked-at : tie.In-loop Inv-loop μ-loop → Entry
-looked-at c = let g = c .before .before .before .before .before .args in entry (mapOf (g .count) (now (g .rw)) (now (g .ro))) (c .before .loop .number)
+small : (c : tie.Then1 Inv-loop μ-loop) → c .before .before .loop .hit .sum ≤ 256
+small c = let l = c .before .before in rw (l .loop .inv .1) at (l .before .pre .0 .small (l .loop .hit .number) (c .if1 .taken))
 
-head : (c : tie.After-head-in Inv-loop μ-loop) → let e = looked-at (c .before) in c .head-in .result ≡ record { id = e .id; length = e .length; memory = e .memory }
-head c =
-    let b = c .before .before .before in
-    let s = b .before .before .before in
-    c .head-in .ensures
-    ∙ rw (b .mask-bytes .ensures .0) (looked-head (s .args .count) (now (s .args .rw)) (now (s .args .ro)) (s .pre .accepted) (c .before .before .loop .inv) (there (c .before)) (s .args .rws) (s .pre .rws-is))
+short : (c : tie.Then1 Inv-loop μ-loop) → length (now (c .before .before .before .args .s)) ≤ 120
+short c = c .before .before .before .pre .0 .short
 
-small : (c : tie.In-loop Inv-loop μ-loop) → (c .before .loop .at ≤ 240) × (c .before .loop .sum + looked-at c .memory ≤ 256)
-small c =
-    let s = c .before .before .before .before .before in
-    looked-small (s .args .count) (now (s .args .rw)) (now (s .args .ro)) (s .pre .accepted) (c .before .loop .inv) (there c) (s .args .rws) (s .pre .rws-is)
-
-mask-bytes-requires : tie.Need-mask-bytes-requires Inv-loop μ-loop
-mask-bytes-requires c κs = search needs
+byte-lt : (c : tie.After-shared-slice-known Inv-loop μ-loop) (k : ℕ) → getD (now (c .before .before .before .before .args .s)) k 0 < 256
+byte-lt c k = c .shared-slice-known .given k .fits
 
 loop-holds : tie.Need-loop-holds Inv-loop μ-loop
-loop-holds c = looked-begin _ _
-
-head-in-requires : tie.Need-head-in-requires Inv-loop μ-loop
-head-in-requires c κs =
-    let b = c .before .before in
-    let s = b .before .before .before in
-    rw (b .mask-bytes .ensures .0) (looked-has (s .args .count) (now (s .args .rw)) (now (s .args .ro)) (s .pre .accepted) (c .before .loop .inv) (there c) (s .args .rws) (s .pre .rws-is))
-
-cast-end : tie.Need-cast-end Inv-loop μ-loop
-cast-end c = search needs
+unfolding markAfter
+loop-holds c = (omega arith, refl, c .pre .1)
 
 add-end : tie.Need-add-end Inv-loop μ-loop
-add-end c = let q = head (c .before) in rw q (omega (arith, small (c .before .before) .1))
+add-end c = omega (arith, inside c, short c)
 
-cast-t16 : tie.Need-cast-t16 Inv-loop μ-loop
-cast-t16 c = search needs
+add-end-2 : tie.Need-add-end-2 Inv-loop μ-loop
+add-end-2 c = omega (arith, inside c, short c)
+
+shared-slice-read-end : tie.Need-shared-slice-read-end Inv-loop μ-loop
+shared-slice-read-end c = inside (c .before)
+
+cast-end : tie.Need-cast-end Inv-loop μ-loop
+cast-end c = let l = c .before .before .before in omega (arith, byte-lt c (l .loop .hit .at + 2 + l .before .args .a))
+
+add-end-3 : tie.Need-add-end-3 Inv-loop μ-loop
+add-end-3 c =
+    let l = c .before .before .before .before in
+    omega (arith, byte-lt (c .before) (l .loop .hit .at + 2 + l .before .args .a), small (c .before .before))
 
 returns : tie.Need-returns Inv-loop μ-loop
-returns c =
-    let h = c .before .before .before in
-    let s = h .before .before .before .before .before .before in
-    let q = head h in
-    rw q (looked-here (s .args .count) (now (s .args .rw)) (now (s .args .ro)) (s .pre .accepted) (h .before .before .loop .inv) (there (h .before)) (s .args .rws) (s .pre .rws-is) (rw q at (c .before .if1 .taken)))
+returns c = let i = c .before .before .before .before .before .loop .inv in record { few = i .0; is = i .1; low = i .2; top = λ _. c .if2 .taken }
 
-add-number : tie.Need-add-number Inv-loop μ-loop
-add-number c = search needs
+add-t14 : tie.Need-add-t14 Inv-loop μ-loop
+add-t14 c = search needs
 
-cast-at : tie.Need-cast-at Inv-loop μ-loop
-cast-at c = search needs
+add-t10 : tie.Need-add-t10 Inv-loop μ-loop
+add-t10 c = let t = c .before .before .before .before in omega (arith, inside t, short t)
 
-add-at : tie.Need-add-at Inv-loop μ-loop
-add-at c = omega (arith, small (c .before .before .before .before) .0, c .struct-known3 .given)
+shared-slice-read-t13 : tie.Need-shared-slice-read-t13 Inv-loop μ-loop
+shared-slice-read-t13 c = omega (arith, inside (c .before .before .before .before .before))
+
+cast-t11 : tie.Need-cast-t11 Inv-loop μ-loop
+cast-t11 c = let b = c .before .before .before .before in omega (arith, byte-lt b (b .before .before .before .loop .hit .at + 1))
+
+add-t16 : tie.Need-add-t16 Inv-loop μ-loop
+add-t16 c =
+    let b = c .before .before .before .before in
+    omega (arith, byte-lt b (b .before .before .before .loop .hit .at + 1), inside (b .before), short (b .before))
 
 loop-less : tie.Need-loop-less Inv-loop μ-loop
-loop-less c = search needs
+loop-less c = omega (arith, c .before .before .before .before .before .if1 .taken)
 
 loop-again : tie.Need-loop-again Inv-loop μ-loop
+unfolding markAfter
 loop-again c =
-    let h = c .before .before .before in
-    let s = h .before .before .before .before .before .before in
-    let q = head h in
-    rw q (looked-next (s .args .count) (now (s .args .rw)) (now (s .args .ro)) (s .pre .accepted) (h .before .before .loop .inv) (there (h .before)) (rw q at (c .before .if1 .left)))
+    let t = c .before .before .before .before .before in
+    let l = t .before .before in
+    let g = l .before .args in
+    (omega (arith, t .if1 .taken), rw (add-one (l .loop .hit .number)) (ap (past (g .a) (now (g .s))) (l .loop .inv .1)), omega (arith, c .before .before .if2 .left))
 
 returns-2 : tie.Need-returns-2 Inv-loop μ-loop
-returns-2 c =
-    let l = c .before in
-    let s = l .before .before .before .before in
-    looked-end (l .loop .inv) (rw (s .pre .all-is) (c .loop-test .left))
+returns-2 c = let i = c .before .before .loop .inv in record { few = i .0; is = i .1; low = i .2; top = λ l. absurd (omega (arith, c .if1 .left)) }
 
 pub look-spec : {M : Type 1} → statement M
 look-spec =
@@ -98,16 +91,18 @@ look-spec =
     (tie.spec
     Inv-loop
     μ-loop
-    mask-bytes-requires
     loop-holds
-    head-in-requires
-    cast-end
     add-end
-    cast-t16
+    add-end-2
+    shared-slice-read-end
+    cast-end
+    add-end-3
     returns
-    add-number
-    cast-at
-    add-at
+    add-t14
+    add-t10
+    shared-slice-read-t13
+    cast-t11
+    add-t16
     loop-less
     loop-again
     returns-2)

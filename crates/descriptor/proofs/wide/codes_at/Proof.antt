@@ -6,22 +6,22 @@ use borrow.Author.Needs.{needs}
 use Rattle.descriptor.proofs.wide.codes_at.Statement.{statement}
 use Rattle.descriptor.proofs.wide.codes_at.Tie as tie
 
-high-first-requires : tie.Need-high-first-requires
-high-first-requires c κs = search needs
+pair-from-requires : tie.Need-pair-from-requires
+pair-from-requires c κs = search needs
 
 returns : tie.Need-returns
 unfolding codesBy
-returns c = rw (eq-eqb (c .before .before .before .args .extras) 1 (c .before .if1 .taken)) (c .high-first .ensures)
+returns c = rw (eq-eqb (c .before .before .before .args .extras) 1 (c .before .if1 .taken)) (c .pair-from .ensures)
 
-add-high-first : tie.Need-add-high-first
-add-high-first c = search needs
+add-pair-from : tie.Need-add-pair-from
+add-pair-from c = search needs
 
-high-first-requires-2 : tie.Need-high-first-requires-2
-high-first-requires-2 c κs = search needs
+pair-from-requires-2 : tie.Need-pair-from-requires-2
+pair-from-requires-2 c κs = search needs
 
 returns-2 : tie.Need-returns-2
 unfolding codesBy
-returns-2 c = let g = c .before .before .before .before .args in rw (ne-eqb (g .extras) 1 (c .before .before .if1 .left), eq-eqb (g .extras) 2 (c .before .if2 .taken)) (c .high-first2 .ensures)
+returns-2 c = let g = c .before .before .before .before .args in rw (ne-eqb (g .extras) 1 (c .before .before .if1 .left), eq-eqb (g .extras) 2 (c .before .if2 .taken)) (c .pair-from2 .ensures)
 
 returns-3 : tie.Need-returns-3
 unfolding codesBy
@@ -30,4 +30,4 @@ returns-3 c = let g = c .before .before .before .args in rw (ne-eqb (g .extras) 
 pub codes-at-spec : {M : Type 1} → statement M
 codes-at-spec =
     tie.close
-    (tie.spec high-first-requires returns add-high-first high-first-requires-2 returns-2 returns-3)
+    (tie.spec pair-from-requires returns add-pair-from pair-from-requires-2 returns-2 returns-3)

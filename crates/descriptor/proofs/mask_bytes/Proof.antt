@@ -3,10 +3,10 @@ use mathlib.Core.Path.{refl}
 use native.Mathlib.Omega.{arith}
 use borrow.Author.Tests.{le-leb, lt-leb}
 use Rattle.rules.specs.Descriptor.{maskBytes}
-use Rattle.descriptor.proofs.walk.mask_bytes.Statement.{statement}
-use Rattle.descriptor.proofs.walk.mask_bytes.Tie as tie
-use Rattle.descriptor.proofs.walk.mask_bytes.Reads as reads
-use Rattle.descriptor.proofs.walk.mask_bytes.Lts as lts
+use Rattle.descriptor.proofs.mask_bytes.Statement.{statement}
+use Rattle.descriptor.proofs.mask_bytes.Tie as tie
+use Rattle.descriptor.proofs.mask_bytes.Reads as reads
+use Rattle.descriptor.proofs.mask_bytes.Lts as lts
 
 returns : tie.Need-returns
 unfolding maskBytes
