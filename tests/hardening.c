@@ -1,0 +1,461 @@
+/* Calls every export with any arguments and watches what is lent.
+
+   Each lent buffer stands in a page between two pages that can't be touched: at the page's start, at its end or anywhere in
+   it. The page's other bytes are canaries. After a call both strings and all canaries are as they were, and so is every byte
+   of the bank but those that an accepted call of its kind may change; a call that touches a byte outside the three pages is
+   stopped. Refusals 9, 8 and 1 to 7 come exactly when they must, and a refused answer has no other number. Most maps
+   are accepted or nearly so: every export and every kind of perform must accept some calls and refuse some, and every refusal
+   must occur.
+
+   gcc -std=c11 -Wall -Wextra -Werror -O2 -I include tests/hardening.c target/staticlib/libvcs.a -o target/hardening
+   target/hardening [calls [seed]] */
+#define _DEFAULT_SOURCE
+#include <signal.h>
+#include <stdio.h>
+#include <stdlib.h>
+#include <string.h>
+#include <sys/mman.h>
+
+#include "vcs.h"
+
+enum { PAGE = 4096, BANK_SIZE = 784, LONGEST = 120, LARGEST = 256 };
+
+/* The exports, perform by kind; the first seven are numbered as perform's kinds. */
+enum {
+    SELECT, WRITE, READ, BYTE_WRITE, BYTE_READ, PUBLISH, APPLY, PERFORM, LOAD = PERFORM + 7, ENTRY, PLACE, OWNER, FRESH,
+    WEIGHT, TAKE, EXPORTS
+};
+static const char *const NAMES[EXPORTS] = {
+    "select", "write", "read", "byte write", "byte read", "publish", "apply", "perform select", "perform write",
+    "perform read", "perform byte write", "perform byte read", "perform publish", "perform apply", "load", "entry", "place",
+    "owner", "fresh", "weight", "take",
+};
+
+static size_t seed = 1, calls = 1000000, made, accepted[EXPORTS], refused[EXPORTS], refusals[15];
+
+/* ---- Random numbers: splitmix64 ---- */
+
+static uint64_t state;
+
+static uint64_t next(void)
+{
+    uint64_t z = state += 0x9E3779B97F4A7C15u;
+    z = (z ^ z >> 30) * 0xBF58476D1CE4E5B9u;
+    z = (z ^ z >> 27) * 0x94D049BB133111EBu;
+    return z ^ z >> 31;
+}
+
+static size_t below(size_t limit)
+{
+    return next() % limit;
+}
+
+static int once_in(size_t times)
+{
+    return below(times) == 0;
+}
+
+#define PICK(type, ...) (((const type[]){__VA_ARGS__})[below(sizeof((const type[]){__VA_ARGS__}) / sizeof(type))])
+
+/* A number: mostly below the limit, else at it, above it, or any. */
+static size_t number(size_t limit)
+{
+    switch (below(48)) {
+    case 0:
+        return limit;
+    case 1:
+        return limit + 1 + below(3);
+    case 2:
+        return PICK(size_t, 255, 256, 257, 783, 784, 65536, (size_t)1 << 32, ((size_t)1 << 32) + 1, (size_t)1 << 61,
+                    SIZE_MAX / 2, SIZE_MAX / 2 + 1, SIZE_MAX - 1, SIZE_MAX);
+    case 3:
+        return next() >> below(64);
+    default:
+        return limit == 0 ? 0 : below(limit);
+    }
+}
+
+static int64_t value(void)
+{
+    switch (below(8)) {
+    case 0:
+        return PICK(int64_t, INT64_MIN, INT64_MIN + 1, -((int64_t)1 << 32), -129, -128, -1, 127, 128, 255, 256,
+                    (int64_t)1 << 32, ((int64_t)1 << 32) + 1, INT64_MAX);
+    case 1:
+        return (int64_t)below(400) - 140;
+    case 2:
+        return (int64_t)next();
+    default:
+        return (int64_t)below(once_in(2) ? 2 : 16);
+    }
+}
+
+/* ---- Lent buffers ---- */
+
+/* `kept` is what the page must hold. */
+typedef struct {
+    uint8_t *page;
+    uint8_t kept[PAGE];
+    uint8_t *lent;
+    size_t length;
+} buffer;
+
+enum { RW, RO, BANK, BUFFERS };
+static buffer buffers[BUFFERS];
+
+static void fail(const char *name, const char *what)
+{
+    printf("hardening: seed %zu, call %zu, %s: %s\n", seed, made, name, what);
+    exit(1);
+}
+
+/* A call has touched a page that it can't touch. */
+static void touched(int number)
+{
+    signal(number, SIG_DFL);
+    fail("the call", "it touches a byte that isn't lent");
+}
+
+static void make_pages(void)
+{
+    signal(SIGSEGV, touched);
+    for (int i = 0; i < BUFFERS; i++) {
+        uint8_t *pages = mmap(NULL, 3 * PAGE, PROT_NONE, MAP_PRIVATE | MAP_ANONYMOUS, -1, 0);
+        if (pages == MAP_FAILED || mprotect(pages + PAGE, PAGE, PROT_READ | PROT_WRITE) != 0) {
+            fail("start", "no pages");
+        }
+        buffers[i].page = pages + PAGE;
+    }
+}
+
+/* Lends a buffer, its bytes and canaries random. One of no bytes is NULL or a place in the page or just outside. */
+static void lend(buffer *b, size_t length)
+{
+    for (size_t i = 0; i < PAGE; i += 8) {
+        uint64_t word = next();
+        memcpy(b->page + i, &word, 8);
+    }
+    size_t room = PAGE - length;
+    b->lent = length == 0 && once_in(2) ? NULL : b->page + PICK(size_t, 0, room, below(room + 1));
+    b->length = length;
+}
+
+/* Keeps the page as it is. */
+static void keep(buffer *b)
+{
+    memcpy(b->kept, b->page, PAGE);
+}
+
+/* An accepted call may change these bytes of the bank. */
+static void may_change(size_t from, size_t length)
+{
+    buffer *b = &buffers[BANK];
+    if (from > BANK_SIZE || length > BANK_SIZE - from) {
+        fail("the call", "it is accepted outside the bank");
+    }
+    size_t at = (size_t)(b->lent - b->page) + from;
+    memcpy(b->kept + at, b->page + at, length);
+}
+
+/* ---- Maps ---- */
+
+/* The load's answer is what every other call must refuse by, and what arguments aim by. */
+static size_t count;
+static vcs_loaded map;
+
+#define LENT count, buffers[RW].lent, buffers[RW].length, buffers[RO].lent, buffers[RO].length
+#define LENT_BANK buffers[BANK].lent, buffers[BANK].length
+
+/* Least Length without A, and bytes needed, of IDs 00h to 13h. */
+static const uint8_t LEAST[] = {3, 3, 4, 4, 6, 4, 4, 7, 6, 3, 3, 3, 3, 3, 3, 4, 4, 4, 6, 3};
+static const uint8_t NEEDED[] = {0, 0, 1, 2, 4, 1, 1, 8, 4, 0, 0, 0, 0, 0, 0, 8, 8, 16, 8, 0};
+
+/* Adds an entry that is accepted, if there is room for it in the string and for its MemoryLength in the sum. */
+static void add_entry(int string, uint8_t bytes[], size_t *length, size_t *sum, int *media)
+{
+    size_t a = count <= 8 ? 1 : 2;
+    uint8_t id = string == RW ? PICK(uint8_t, 2, 3, 4, 5, 6, 7, 8, 15, 16, 4, 7, 8, 0, 1, (uint8_t)(9 + below(6)), 0x13)
+                              : PICK(uint8_t, 0x11, 0x12, 0x12, 0, 0x13);
+    size_t size = LEAST[id] + a + (once_in(6) ? below(6) : 0);
+    size_t memory = NEEDED[id] + (once_in(6) || NEEDED[id] == 0 ? below(8) : 0);
+    if (*length + size > LONGEST || *sum + memory > LARGEST) {
+        return;
+    }
+    uint8_t *entry = bytes + *length;
+    for (size_t i = 0; i < size; i++) {
+        entry[i] = (uint8_t)next();
+    }
+    entry[0] = id == 0x13 ? (uint8_t)(0x13 + below(0x100 - 0x13)) : id;
+    entry[1] = (uint8_t)size;
+    if (once_in(2)) {
+        memset(entry + 2, 0xFF, a);
+    }
+    entry[2 + a] = (uint8_t)memory;
+    if (NEEDED[id] > 0) {
+        int side = once_in(12) || (*media && id >= 2 && id <= 8);
+        entry[3 + a] = (uint8_t)((entry[3 + a] & 0xFE) | side);
+        *media |= side && string == RW;
+    }
+    if (id == 0x12) {
+        entry[5 + a] %= 4;
+    } else if (LEAST[id] >= 6 && !once_in(4)) {
+        memset(entry + LEAST[id] + a - 2, 0xFF, 2);
+    }
+    *length += size;
+    *sum += memory;
+}
+
+/* Fills a string to 120 bytes, and mostly the sum too, with an entry that has no fields. */
+static void fill_string(uint8_t bytes[], size_t *length, size_t *sum)
+{
+    size_t a = count <= 8 ? 1 : 2, size = LONGEST - *length, memory = LARGEST - *sum;
+    if (size < 3 + a) {
+        return;
+    }
+    memory = once_in(4) ? 0 : memory > 255 ? 255 : memory;
+    memset(bytes + *length, 0, size);
+    bytes[*length] = PICK(uint8_t, 0x00, 0x13, 0xFF);
+    bytes[*length + 1] = (uint8_t)size;
+    bytes[*length + 2 + a] = (uint8_t)memory;
+    *length += size;
+    *sum += memory;
+}
+
+/* Makes a string of 0 to 130 bytes: accepted, or with the other string's entries, a byte changed, cut, longer, or noise. */
+static void make_string(int string, size_t *sum, int *media, int damage)
+{
+    uint8_t bytes[130] = {0};
+    size_t length = 0;
+    for (size_t entries = below(PICK(size_t, 2, 8, 24, 40)); entries > 0; entries--) {
+        add_entry(damage && once_in(12) ? 1 - string : string, bytes, &length, sum, media);
+    }
+    if (once_in(8)) {
+        fill_string(bytes, &length, sum);
+    }
+    size_t planned = length;
+    switch (damage ? below(6) : 6) {
+    case 0:
+    case 1:
+        bytes[below(length + 1)] = (uint8_t)next();
+        break;
+    case 2:
+        bytes[below(length + 1)] ^= (uint8_t)(1 << below(8));
+        break;
+    case 3:
+        length = below(length + 1);
+        break;
+    case 4:
+        length = PICK(size_t, 119, 120, 121, 122, 130);
+        break;
+    case 5:
+        length = below(131);
+        planned = 0;
+        break;
+    }
+    buffer *b = &buffers[string];
+    lend(b, length);
+    if (b->lent != NULL) {
+        memcpy(b->lent, bytes, planned < length ? planned : length);
+    }
+    keep(b);
+}
+
+/* The position after the last step over a string. */
+static size_t positions[2];
+
+/* Another map and bank. Most banks have AppSels, and are clear or have small numbers. */
+static void make_map(void)
+{
+    size_t sum = 0;
+    int media = 0, damage = once_in(4), which = (int)below(2);
+    count = once_in(2) ? PICK(size_t, 1, 8, 9, 15) : 1 + below(15);
+    make_string(RW, &sum, &media, damage && which == 0);
+    make_string(RO, &sum, &media, damage && which == 1);
+    size_t apps = count;
+    count = once_in(24) ? number(16) : count;
+    buffer *b = &buffers[BANK];
+    lend(b, once_in(12) ? PICK(size_t, 0, 0, 1, 511, 512, 768, 783, 783) : PICK(size_t, 784, 785, 1000));
+    if (b->length >= BANK_SIZE && !once_in(3)) {
+        memset(b->lent, 0, BANK_SIZE);
+        for (size_t i = 768; i < BANK_SIZE; i++) {
+            b->lent[i] = (uint8_t)(once_in(16) ? below(17) : 1 + below(apps));
+        }
+        int clear = once_in(2);
+        for (size_t i = 0; i < 512 && !clear; i++) {
+            b->lent[i] = (uint8_t)below(4);
+        }
+    }
+    keep(b);
+    positions[RW] = positions[RO] = 0;
+    map = vcs_load(LENT);
+}
+
+/* ---- One call ---- */
+
+/* A call's arguments, aimed at what the map has. */
+static vcs_call arguments(size_t kind)
+{
+    size_t rw = map.refusal == 0 ? map.rw_count : 8, ro = map.refusal == 0 ? map.ro_count : 4;
+    size_t offsets = map.refusal != 0 ? 60 : once_in(2) ? map.staged_length : map.active_length;
+    size_t entry = kind == WRITE ? number(rw) : kind == PUBLISH ? rw + number(ro) : number(rw + ro);
+    return (vcs_call){
+        .kind = kind, .set = number(once_in(2) ? 2 : 3), .entry = entry, .part = once_in(2) ? 0 : number(2),
+        .lane = number(8) + 1, .offset = number(offsets), .app = number(count + 1), .value = value(), .byte = (uint8_t)next(),
+        .lanes = (uint8_t)(once_in(2) ? next() & next() & next() : next()),
+    };
+}
+
+/* What an accepted call of a kind may change. */
+static void changes(const vcs_call *c)
+{
+    if (c->kind == SELECT) {
+        may_change(768 + 8 * c->set + c->lane - 1, 1);
+    } else if (c->kind == WRITE) {
+        may_change(256 * c->set + vcs_place(LENT, c->set, c->entry, c->part, c->lane).byte, 1);
+    } else if (c->kind == BYTE_WRITE) {
+        may_change(256 * c->set + c->offset, 1);
+    } else if (c->kind == PUBLISH) {
+        may_change(512 + vcs_place(LENT, 2, c->entry, c->part, c->lane).byte, 1);
+    } else if (c->kind == APPLY) {
+        may_change(512, map.staged_length);
+    }
+}
+
+/* The refusal that 9, 8 and the load decide, or 0. */
+static size_t refused_by_lent(int needs_bank)
+{
+    if (count < 1 || count > 15 || buffers[RW].length > LONGEST || buffers[RO].length > LONGEST) {
+        return 9;
+    }
+    return needs_bank && buffers[BANK].length < BANK_SIZE ? 8 : map.refusal;
+}
+
+/* Judges an answer of at most six numbers: the refusal, what it names, then numbers that a refused answer has not. */
+static int judge(size_t export, const void *answer, size_t size)
+{
+    size_t numbers[6] = {0};
+    memcpy(numbers, answer, size);
+    size_t refusal = numbers[0], at = numbers[1];
+    size_t expected = refused_by_lent(export < LOAD || export == FRESH || export == WEIGHT);
+    if (expected != 0 ? refusal != expected : refusal > 14 || (refusal != 0 && refusal < 10)) {
+        fail(NAMES[export], "another refusal");
+    }
+    int named = refusal == 0 || (refusal >= 8 && refusal <= 12) ? at == 0 : refusal <= 7 ? at == map.at : at >= 1 && at <= 8;
+    if (!named) {
+        fail(NAMES[export], "another entry or lane");
+    }
+    for (int i = 2; i < 6 && refusal != 0; i++) {
+        if (numbers[i] != 0) {
+            fail(NAMES[export], "a refused answer has a number");
+        }
+    }
+    refusals[refusal]++;
+    (refusal == 0 ? accepted : refused)[export]++;
+    return refusal == 0;
+}
+
+#define JUDGE(type, call) judge(export, &(type[1]){call}, sizeof(type))
+
+/* The reader's step has its own answer. */
+static void take(void)
+{
+    size_t string = below(2);
+    const buffer *b = &buffers[string];
+    size_t position = once_in(2) ? positions[string] : number(b->length);
+    vcs_taken answer = vcs_take(count, b->lent, b->length, position);
+    int nine = count < 1 || count > 15 || b->length > LONGEST;
+    if (answer.refusal > 9 || (answer.refusal > 2 && answer.refusal < 9) || (answer.refusal == 9) != nine) {
+        fail("take", "its refusal");
+    }
+    if (answer.end != (answer.refusal == 0 && position >= b->length)) {
+        fail("take", "its end");
+    }
+    if (answer.refusal != 0 || answer.end != 0) {
+        if (answer.start != 0 || answer.length != 0 || answer.position != position) {
+            fail("take", "a number without an entry");
+        }
+    } else if (answer.start != position || answer.length < 4 || answer.length > b->length - position ||
+               answer.position != position + answer.length) {
+        fail("take", "an entry outside its string");
+    }
+    positions[string] = answer.position;
+    (answer.refusal == 0 ? accepted : refused)[TAKE]++;
+}
+
+/* Perform with a kind that doesn't exist. */
+static void perform_none(vcs_call c)
+{
+    c.kind = 7 + number(0) % (SIZE_MAX - 7);
+    size_t expected = refused_by_lent(1);
+    if (vcs_perform(LENT, LENT_BANK, c).refusal != (expected == 0 ? 10 : expected)) {
+        fail("perform", "a kind that doesn't exist");
+    }
+}
+
+/* Makes a call of an export, or perform of no kind, and looks at every lent page. */
+static void call_one(size_t export)
+{
+    vcs_call c = arguments(export < PERFORM ? export : export < LOAD ? export - PERFORM : APPLY + 1);
+    int is_accepted = 0;
+    switch (export) {
+    case SELECT: is_accepted = JUDGE(vcs_answer, vcs_select(LENT, LENT_BANK, c.set, c.lane, c.app)); break;
+    case WRITE:
+        is_accepted = JUDGE(vcs_answer, vcs_write(LENT, LENT_BANK, c.set, c.entry, c.part, c.lane, c.value));
+        break;
+    case READ: is_accepted = JUDGE(vcs_answer, vcs_read(LENT, LENT_BANK, c.set, c.entry, c.part, c.lane)); break;
+    case BYTE_WRITE: is_accepted = JUDGE(vcs_answer, vcs_byte_write(LENT, LENT_BANK, c.set, c.offset, c.byte)); break;
+    case BYTE_READ: is_accepted = JUDGE(vcs_answer, vcs_byte_read(LENT, LENT_BANK, c.set, c.offset)); break;
+    case PUBLISH:
+        is_accepted = JUDGE(vcs_answer, vcs_publish(LENT, LENT_BANK, c.entry, c.part, c.lane, c.value));
+        break;
+    case APPLY: is_accepted = JUDGE(vcs_answer, vcs_apply(LENT, LENT_BANK, c.set, c.lanes)); break;
+    case LOAD: is_accepted = JUDGE(vcs_loaded, vcs_load(LENT)); break;
+    case ENTRY: is_accepted = JUDGE(vcs_located, vcs_entry(LENT, c.entry)); break;
+    case PLACE: is_accepted = JUDGE(vcs_placed, vcs_place(LENT, c.set, c.entry, c.part, c.lane)); break;
+    case OWNER: is_accepted = JUDGE(vcs_owned, vcs_owner(LENT, c.set, c.offset, c.lane - 1)); break;
+    case FRESH: is_accepted = JUDGE(vcs_loaded, vcs_fresh(LENT, LENT_BANK)); break;
+    case WEIGHT: is_accepted = JUDGE(vcs_answer, vcs_weight(LENT, LENT_BANK, c.entry, c.lane)); break;
+    case TAKE: take(); break;
+    case EXPORTS: perform_none(c); break;
+    default: is_accepted = JUDGE(vcs_answer, vcs_perform(LENT, LENT_BANK, c)); break;
+    }
+    if (is_accepted && export == FRESH) {
+        memset(buffers[BANK].kept + (buffers[BANK].lent - buffers[BANK].page), 0, BANK_SIZE);
+    } else if (is_accepted) {
+        changes(&c);
+    }
+    for (int i = 0; i < BUFFERS; i++) {
+        if (memcmp(buffers[i].page, buffers[i].kept, PAGE) != 0) {
+            fail(export < EXPORTS ? NAMES[export] : "perform", "it has changed a byte that it must keep");
+        }
+    }
+}
+
+int main(int words, char **word)
+{
+    calls = words > 1 ? strtoull(word[1], NULL, 10) : calls;
+    seed = words > 2 ? strtoull(word[2], NULL, 10) : seed;
+    state = seed;
+    make_pages();
+    while (made < calls) {
+        make_map();
+        for (size_t more = 1 + below(64); more > 0 && made < calls; more--) {
+            made++;
+            call_one(below(EXPORTS + 1));
+        }
+    }
+    for (size_t i = 0; i < EXPORTS; i++) {
+        printf("%-20s%10zu accepted%10zu refused\n", NAMES[i], accepted[i], refused[i]);
+        if (accepted[i] == 0 || refused[i] == 0) {
+            fail(NAMES[i], "never accepted, or never refused");
+        }
+    }
+    for (size_t i = 1; i < 15; i++) {
+        if (refusals[i] == 0) {
+            printf("hardening: refusal %zu has not occurred\n", i);
+            exit(1);
+        }
+    }
+    printf("hardening: %zu calls, seed %zu\n", made, seed);
+    return 0;
+}
