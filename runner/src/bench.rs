@@ -1,84 +1,363 @@
-//! Nanoseconds of the engine's calls against the plain peer's: the same inputs in one process, medians of many samples.
+//! Nanoseconds of each of the engine's calls against the plain peer's: the same inputs in one process, medians of many
+//! samples. Before anything is timed, both programs must agree on the timed inputs and on varied ones.
 
+use std::collections::BTreeSet;
 use std::hint::black_box;
+use std::ops::Deref;
 use std::time::Instant;
 
+use crate::any_map;
+use crate::calls::bank::{APPLY, BYTE_READ, BYTE_WRITE, FRESH, PERFORM, PUBLISH, READ, SELECT, WEIGHT, WRITE};
+use crate::calls::{entry, load, owner, place, take};
+use crate::case::Case;
+use crate::engine::{self, FlatCall, Located};
 use crate::fixed::hex;
-use crate::{engine, peer};
+use crate::peer;
+use crate::random::Random;
+use crate::report::Answer;
+use crate::strings::Flat;
+use crate::tally::Row;
+use crate::valid;
 
-/// Samples of each program, taken in turn.
-const SAMPLES: usize = 2001;
+/// Rounds over all calls. A call's time is its least median of a round: other work on the machine only adds to it.
+const ROUNDS: usize = 9;
+/// Samples of each program in a round, taken in turn.
+const SAMPLES: usize = 301;
 /// Calls in a sample.
-const CALLS: u32 = 400;
+const CALLS: u32 = 200;
+/// Inputs on which both programs must agree, beside the timed one.
+const VARIED: u64 = 20_000;
 
-/// Name, RW and RO in hex; the count is 4.
-const MAPS: [(&str, &str, &str); 3] = [
-    ("small", "02 05 0B 01 00 00 05 00 02 00 05 05 0F 01 00", ""),
-    (
-        "typical",
-        "02 05 0F 01 00 03 05 0F 02 00 04 07 0F 04 00 1F FF 05 05 0F 01 00 06 05 0F 01 00 \
-         07 08 0F 08 00 FF 0F FF 08 07 0F 04 00 00 0F 0F 05 03 08 00 10 05 03 08 00 13 04 0F 02 \
-         07 08 0F 08 01 01 0F FF 08 07 0F 04 01 00 0F",
-        "11 05 0F 10 00 12 07 0F 08 00 FF 00 12 07 0F 08 00 00 01 12 07 0F 08 00 01 03",
-    ),
-    (
-        "full",
-        "02 05 0F 01 00 03 05 0F 02 00 04 07 0F 04 00 1F FF 05 05 0F 01 00 06 05 0F 01 00 \
-         07 08 0F 08 00 FF 0F FF 08 07 0F 04 00 00 0F \
-         01 06 0F 00 00 02 13 04 0F 00 09 04 0F 00 FF 04 0F 00 0F 05 03 08 01 10 05 03 08 00 \
-         02 05 0F 01 01 03 05 0F 02 01 04 07 0F 04 01 1F FF 05 05 0F 01 01 06 05 0F 01 01 \
-         07 08 0F 08 01 01 0F FF 08 07 0F 04 01 00 0F 00 04 00 00 00 04 00 00",
-        "12 07 0F 08 00 FD 00 11 05 0F 10 00 12 07 0F 08 00 FE 01 11 05 0F 10 00 \
-         12 07 0F 08 00 FF 02 11 05 0F 10 00 12 07 0F 08 00 00 03 11 05 0F 10 00 \
-         12 07 0F 08 00 01 00 11 05 0F 10 01 12 07 0F 08 01 02 01 11 05 0F 10 01 \
-         12 07 0F 08 01 03 02 11 05 0F 10 01 12 07 0F 08 01 04 03 11 05 0F 10 01 \
-         00 04 00 01 13 04 00 01 20 04 00 01 00 04 00 01 FF 04 00 01 00 04 00 01",
-    ),
+/// The application that every timed map's entries with fields have, and the lane of calls that name one.
+const APP: usize = 1;
+const LANE: usize = 5;
+
+/// A map for the count 4, and what its calls name: an RW and a 12h entry of the second half, and values for them.
+struct Named {
+    name: &'static str,
+    rw: &'static str,
+    ro: &'static str,
+    written: (usize, i64),
+    published: (usize, i64),
+}
+
+const MAPS: [Named; 3] = [
+    // Document 01's example and a 12h entry.
+    Named {
+        name: "small",
+        rw: "02 05 0B 01 00 00 05 00 02 00 05 05 0F 01 00",
+        ro: "12 07 0F 08 00 00 00",
+        written: (2, 1),
+        published: (3, -14),
+    },
+    Named {
+        name: "typical",
+        rw: "02 05 0F 01 00 03 05 0F 02 00 04 07 0F 04 00 1F FF 05 05 0F 01 00 06 05 0F 01 00 \
+             07 08 0F 08 00 FF 0F FF 08 07 0F 04 00 00 0F 0F 05 03 08 00 10 05 03 08 00 13 04 0F 02 \
+             07 08 0F 08 01 01 0F FF 08 07 0F 04 01 00 0F",
+        ro: "11 05 0F 10 00 12 07 0F 08 00 FF 00 12 07 0F 08 00 00 01 12 07 0F 08 00 01 03",
+        written: (10, 3),
+        published: (14, -14),
+    },
+    Named {
+        name: "full",
+        rw: "02 05 0F 01 00 03 05 0F 02 00 04 07 0F 04 00 1F FF 05 05 0F 01 00 06 05 0F 01 00 \
+             07 08 0F 08 00 FF 0F FF 08 07 0F 04 00 00 0F \
+             01 06 0F 00 00 02 13 04 0F 00 09 04 0F 00 FF 04 0F 00 0F 05 03 08 01 10 05 03 08 00 \
+             02 05 0F 01 01 03 05 0F 02 01 04 07 0F 04 01 1F FF 05 05 0F 01 01 06 05 0F 01 01 \
+             07 08 0F 08 01 01 0F FF 08 07 0F 04 01 00 0F 00 04 00 00 00 04 00 00",
+        ro: "12 07 0F 08 00 FD 00 11 05 0F 10 00 12 07 0F 08 00 FE 01 11 05 0F 10 00 \
+             12 07 0F 08 00 FF 02 11 05 0F 10 00 12 07 0F 08 00 00 03 11 05 0F 10 00 \
+             12 07 0F 08 00 01 00 11 05 0F 10 01 12 07 0F 08 01 02 01 11 05 0F 10 01 \
+             12 07 0F 08 01 03 02 11 05 0F 10 01 12 07 0F 08 01 04 03 11 05 0F 10 01 \
+             00 04 00 01 13 04 00 01 20 04 00 01 00 04 00 01 FF 04 00 01 00 04 00 01",
+        written: (18, 3),
+        published: (34, -14),
+    },
 ];
 
-pub fn run() {
-    println!("{:<24}{:>8}{:>12}{:>12}{:>8}", "map and call", "entries", "engine ns", "peer ns", "ratio");
-    for (name, rw, ro) in MAPS {
-        let (rw, ro) = (hex(rw), hex(ro));
-        let loaded = engine::load(4, &rw, &ro);
-        assert_eq!(loaded.refusal, 0, "the {name} map is accepted");
-        let entries = loaded.entries();
-        let last = entries - 1;
-        row(
-            &format!("{name}, load"),
-            entries,
-            || engine::load(black_box(4), black_box(&rw), black_box(&ro)),
-            || peer::load(black_box(4), black_box(&rw), black_box(&ro)),
-        );
-        row(
-            &format!("{name}, entry (last)"),
-            entries,
-            || engine::locate(black_box(4), black_box(&rw), black_box(&ro), black_box(last)),
-            || peer::locate(black_box(4), black_box(&rw), black_box(&ro), black_box(last)),
-        );
+/// The arguments of every call; each reads its own.
+#[derive(Clone, Copy, Debug)]
+struct Args {
+    call: FlatCall,
+    bit: usize,
+    position: usize,
+}
+
+impl Deref for Args {
+    type Target = FlatCall;
+
+    fn deref(&self) -> &FlatCall {
+        &self.call
     }
 }
 
-/// Times a call of both programs, whose answers must be equal, and prints its line.
-fn row<A: PartialEq>(name: &str, entries: usize, engine: impl Fn() -> A, peer: impl Fn() -> A) {
-    assert!(engine() == peer(), "{name}: engine and peer differ");
-    let mut times = [Vec::new(), Vec::new()];
-    for _ in 0..SAMPLES {
-        times[0].push(sample(&engine));
-        times[1].push(sample(&peer));
+/// What a call is given.
+struct Input {
+    map: Flat,
+    bank: Vec<u8>,
+    args: Args,
+}
+
+/// A timed map with its bank, and arguments that name a field of a staged and of the active set.
+struct Subject {
+    name: &'static str,
+    map: Flat,
+    bank: Vec<u8>,
+    staged: Args,
+    active: Args,
+}
+
+impl Subject {
+    fn new(named: &Named) -> Subject {
+        let map = Flat { count: 4, strings: [hex(named.rw), hex(named.ro)] };
+        let case = map.case();
+        let args = |set, (entry, value)| {
+            let offset = engine::place(case.count, case.rw, case.ro, set, entry, 0, LANE).byte;
+            let position = engine::locate(case.count, case.rw, case.ro, entry).start;
+            let call =
+                FlatCall { kind: 1, set, entry, part: 0, lane: LANE, offset, app: APP, value, byte: 0x21, lanes: 0xFF };
+            Args { call, bit: 4, position }
+        };
+        let (staged, active) = (args(0, named.written), args(2, named.published));
+        let bank = planned(&case);
+        Subject { name: named.name, map, bank, staged, active }
     }
-    let [engine, peer] = times.map(|mut times| {
-        times.sort_by(f64::total_cmp);
-        times[SAMPLES / 2]
-    });
-    println!("{name:<24}{entries:>8}{engine:>12.1}{peer:>12.1}{:>8.2}", engine / peer);
+}
+
+/// A bank with accepted numbers in all fields of staged set 0 and of the active set, and the application in each lane.
+fn planned(case: &Case) -> Vec<u8> {
+    let mut bank = vec![0; 784];
+    let loaded = engine::load(case.count, case.rw, case.ro);
+    assert_eq!(loaded.refusal, 0, "a timed map is accepted: {case}");
+    for lane in 1..=8 {
+        engine::select(case, &mut bank, 0, lane, APP);
+        for entry in 0..loaded.entries() {
+            for part in 0..2 {
+                let values = (0..16).map(|value| (value + (entry + lane) as i64) % 16);
+                let mut accepts = |value: &i64| {
+                    engine::write(case, &mut bank, 0, entry, part, lane, *value).refusal == 0
+                        || engine::publish(case, &mut bank, entry, part, lane, *value).refusal == 0
+                };
+                values.into_iter().find(|value| accepts(value));
+            }
+        }
+    }
+    bank
+}
+
+/// Inputs of all kinds, on the timed maps and on generated ones, accepted and refused.
+fn varied(subjects: &[Subject], seed: u64) -> Input {
+    let random = Random::new(seed);
+    let subject = &subjects[random.below(subjects.len())];
+    let map = match random.below(4) {
+        0 => any_map(&random),
+        1 => valid::valid(&random).flat(),
+        _ => subject.map.clone(),
+    };
+    let length = random.pick(&[784, 784, 784, 784, 784, 784, 800, 1024, 783, 0]);
+    let mut bank = match random.below(4) {
+        0 | 1 => subject.bank.clone(),
+        2 => vec![0; 784],
+        _ => random.bytes(784),
+    };
+    if random.once_in(2) {
+        // One byte about the fields of a staged set: apply may answer 14.
+        bank[random.below(64)] = random.byte();
+    }
+    bank.resize(length, 0xA5);
+    if length >= 784 && random.once_in(2) {
+        let least = usize::from(!random.once_in(4));
+        bank[768..784].fill_with(|| random.within(least, map.count.clamp(1, 15)) as u8);
+    }
+    let args = varied_args(&random, &map.case());
+    Input { map, bank, args }
+}
+
+fn varied_args(random: &Random, case: &Case) -> Args {
+    let loaded = engine::load(case.count, case.rw, case.ro);
+    let call = FlatCall {
+        kind: random.about(7),
+        set: random.about(3),
+        entry: random.about(loaded.entries()),
+        part: random.pick(&[0, 0, random.about(2)]),
+        lane: random.pick(&[random.within(1, 8), random.about(9)]),
+        offset: random.about(random.pick(&[loaded.staged_length, loaded.active_length])),
+        app: random.about(case.count.min(15) + 1),
+        value: match random.below(2) {
+            0 => random.below(16) as i64,
+            _ => random.pick(&[-129, -128, -1, 16, 127, 128, 255, 256, i64::MIN, i64::MAX]),
+        },
+        byte: random.byte(),
+        lanes: random.pick(&[0, 0xFF, 1 << random.below(8), random.byte()]),
+    };
+    Args { call, bit: random.about(8), position: random.about(case.rw.len() + 1) }
+}
+
+impl Answer for Located {
+    fn refusal(&self) -> usize {
+        self.refusal
+    }
+}
+
+/// A call's times: for each map, engine and peer.
+struct Line {
+    name: &'static str,
+    times: [[f64; 2]; 3],
+}
+
+struct Bench {
+    subjects: [Subject; 3],
+    varied: Vec<Input>,
+    lines: Vec<Line>,
+}
+
+impl Bench {
+    /// Times a call of both programs on each map; in the first round it also checks it.
+    fn row<A: Answer>(
+        &mut self,
+        name: &'static str,
+        row: &Row,
+        args: impl Fn(&Subject) -> Args,
+        engine: impl Fn(&Case, &mut [u8], &Args) -> A,
+        peer: impl Fn(&Case, &mut [u8], &Args) -> A,
+    ) {
+        let known = self.lines.iter().position(|line| line.name == name);
+        let line = known.unwrap_or_else(|| {
+            self.check(name, row, &args, &engine, &peer);
+            self.lines.push(Line { name, times: [[f64::INFINITY; 2]; 3] });
+            self.lines.len() - 1
+        });
+        for (subject, least) in self.subjects.iter().zip(&mut self.lines[line].times) {
+            let (case, mut bank, args) = (subject.map.case(), subject.bank.clone(), args(subject));
+            let mut times = [Vec::new(), Vec::new()];
+            for _ in 0..SAMPLES {
+                times[0].push(sample(|| engine(black_box(&case), black_box(&mut bank), black_box(&args))));
+                times[1].push(sample(|| peer(black_box(&case), black_box(&mut bank), black_box(&args))));
+            }
+            for (least, times) in least.iter_mut().zip(times) {
+                *least = least.min(median(times));
+            }
+        }
+    }
+
+    /// Both programs give equal answers and equal banks: on the timed inputs, which are accepted, and on the varied
+    /// ones, which reach every number that the call can answer.
+    fn check<A: Answer>(
+        &self,
+        name: &str,
+        row: &Row,
+        args: impl Fn(&Subject) -> Args,
+        engine: impl Fn(&Case, &mut [u8], &Args) -> A,
+        peer: impl Fn(&Case, &mut [u8], &Args) -> A,
+    ) {
+        let agreed = |map: &Flat, bank: &[u8], args: &Args| {
+            let case = map.case();
+            let mut banks = [bank.to_vec(), bank.to_vec()];
+            let answers = [engine(&case, &mut banks[0], args), peer(&case, &mut banks[1], args)];
+            let equal = answers[0] == answers[1] && banks[0] == banks[1];
+            assert!(equal, "{name}: engine and peer differ on {case}, {args:?}: {answers:?}, banks {banks:02X?}");
+            answers[0].refusal()
+        };
+        for subject in &self.subjects {
+            assert_eq!(agreed(&subject.map, &subject.bank, &args(subject)), 0, "{name}: accepted on {}", subject.name);
+        }
+        let seen = self.varied.iter().map(|input| agreed(&input.map, &input.bank, &input.args));
+        let seen: BTreeSet<usize> = seen.collect();
+        assert_eq!(seen, row.numbers.iter().copied().collect(), "{name}: the numbers that varied inputs reach");
+    }
+
+    fn print(&self) {
+        print!("{:<18}", "");
+        for Subject { name, map, .. } in &self.subjects {
+            let case = map.case();
+            let entries = engine::load(case.count, case.rw, case.ro).entries();
+            print!("{:>24}", format!("{name}, {entries} entries"));
+        }
+        println!("\n{:<18}{}", "nanoseconds", "   engine    peer  ratio".repeat(self.subjects.len()));
+        for Line { name, times } in &self.lines {
+            print!("{name:<18}");
+            for [engine, peer] in times {
+                print!("{engine:>9.1}{peer:>8.1}{:>7.2}", engine / peer);
+            }
+            println!();
+        }
+    }
+}
+
+fn median(mut times: Vec<f64>) -> f64 {
+    times.sort_by(f64::total_cmp);
+    times[times.len() / 2]
 }
 
 /// Nanoseconds of one call, over a run of calls.
-fn sample<A>(call: impl Fn() -> A) -> f64 {
+fn sample<A>(mut call: impl FnMut() -> A) -> f64 {
     let start = Instant::now();
     for _ in 0..CALLS {
-        black_box(call());
+        // By reference: a copy of the answer isn't the call's.
+        black_box(&call());
     }
     start.elapsed().as_nanos() as f64 / f64::from(CALLS)
+}
+
+/// A row's line. Its call is written once, for both programs; `bank` stands for the lent bank, if it takes one.
+macro_rules! row {
+    ($bench:ident, $name:literal, $row:expr, $of:expr, |$a:ident| $call:ident(bank $(, $value:expr)*)) => {
+        $bench.row(
+            $name,
+            &$row,
+            $of,
+            |case, bank, $a| engine::$call(case, bank $(, $value)*),
+            |case, bank, $a| peer::$call(case.count, case.rw, case.ro, bank $(, $value)*),
+        )
+    };
+    ($bench:ident, $name:literal, $row:expr, $of:expr, |$a:ident| $call:ident($($value:expr),*)) => {
+        $bench.row(
+            $name,
+            &$row,
+            $of,
+            |case, _, $a| engine::$call(case.count, case.rw, case.ro $(, $value)*),
+            |case, _, $a| peer::$call(case.count, case.rw, case.ro $(, $value)*),
+        )
+    };
+}
+
+pub fn run() {
+    let subjects = MAPS.each_ref().map(Subject::new);
+    let varied = (0..VARIED).map(|seed| varied(&subjects, seed)).collect();
+    let mut bench = Bench { subjects, varied, lines: Vec::new() };
+    for _ in 0..ROUNDS {
+        rows(&mut bench);
+    }
+    bench.print();
+}
+
+/// Every call once.
+#[rustfmt::skip]
+fn rows(bench: &mut Bench) {
+    let staged = |subject: &Subject| subject.staged;
+    let active = |subject: &Subject| subject.active;
+    let one_lane = |&Subject { staged, .. }: &Subject| {
+        Args { call: FlatCall { lanes: 1 << (LANE - 1), ..staged.call }, ..staged }
+    };
+    row!(bench, "load", load::CALL, staged, |_a| load());
+    row!(bench, "entry", entry::CALL, active, |a| locate(a.entry));
+    row!(bench, "place", place::CALL, active, |a| place(a.set, a.entry, a.part, a.lane));
+    row!(bench, "owner", owner::CALL, active, |a| owner(a.set, a.offset, a.bit));
+    row!(bench, "fresh", FRESH, staged, |_a| fresh(bank));
+    row!(bench, "select", SELECT, staged, |a| select(bank, a.set, a.lane, a.app));
+    row!(bench, "write", WRITE, staged, |a| write(bank, a.set, a.entry, a.part, a.lane, a.value));
+    row!(bench, "read", READ, active, |a| read(bank, a.set, a.entry, a.part, a.lane));
+    row!(bench, "byte write", BYTE_WRITE, staged, |a| byte_write(bank, a.set, a.offset, a.byte));
+    row!(bench, "byte read", BYTE_READ, active, |a| byte_read(bank, a.set, a.offset));
+    row!(bench, "publish", PUBLISH, active, |a| publish(bank, a.entry, a.part, a.lane, a.value));
+    row!(bench, "apply, all lanes", APPLY, staged, |a| apply(bank, a.set, a.lanes));
+    row!(bench, "apply, one lane", APPLY, one_lane, |a| apply(bank, a.set, a.lanes));
+    row!(bench, "weight", WEIGHT, active, |a| weight(bank, a.entry, a.lane));
+    bench.row(
+        "take", &take::CALL, staged,
+        |case, _, a| engine::take(case.count, case.rw, a.position),
+        |case, _, a| peer::take(case.count, case.rw, a.position),
+    );
+    row!(bench, "perform (write)", PERFORM, staged, |a| perform(bank, a.call));
 }

@@ -15,11 +15,17 @@ pub struct Row {
 pub struct Tally {
     heading: &'static str,
     rows: Vec<(&'static Row, [u64; COLUMNS])>,
+    required: Vec<(&'static Row, u64)>,
 }
 
 impl Tally {
     pub fn new(heading: &'static str, rows: &[&'static Row]) -> Tally {
-        Tally { heading, rows: rows.iter().map(|&row| (row, [0; COLUMNS])).collect() }
+        Tally { heading, rows: rows.iter().map(|&row| (row, [0; COLUMNS])).collect(), required: Vec::new() }
+    }
+
+    /// Asks for more accepted calls of a row than the floor.
+    pub fn require(&mut self, row: &'static Row, least: u64) {
+        self.required.push((row, least));
     }
 
     /// Counts a number in one of the rows that the tally was made with.
@@ -51,8 +57,10 @@ impl Tally {
         for (row, seen) in &self.rows {
             for (number, &count) in seen.iter().enumerate() {
                 let can_occur = row.numbers.contains(&number);
-                if can_occur && count < FLOOR {
-                    faults.push(format!("{}: {number} seen {count} times, below {FLOOR}", row.name));
+                let required = self.required.iter().find(|(known, _)| number == 0 && known.name == row.name);
+                let least = required.map_or(FLOOR, |&(_, least)| least);
+                if can_occur && count < least {
+                    faults.push(format!("{}: {number} seen {count} times, below {least}", row.name));
                 }
                 if !can_occur && count > 0 {
                     faults.push(format!("{}: {number} can't occur, seen {count} times", row.name));

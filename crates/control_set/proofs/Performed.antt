@@ -5,7 +5,9 @@ use mathlib.Core.List.{List, [], _∷_}
 use Prim.Native.Nat.{ℕ}
 use Rattle.rules.specs.declared.Call.{Call}
 use Rattle.rules.specs.declared.Answer.{Answer}
+use lib.ListN.{length, drop}
 use Rattle.rules.specs.Load.{mapOf}
+use Rattle.rules.specs.Layout.{bankSize}
 use Rattle.rules.specs.Bank.{Bank, bankStep, freshStep, runBank}
 use Rattle.rules.specs.Demands.{Shows, tableRun, FreshAccepted}
 use Rattle.rules.proofs.Demands.{demand3-after-fresh}
@@ -20,9 +22,11 @@ pub data Performs (count : ℕ) (rw ro : List ℕ) : Bank → List Call → List
       → Performs count rw ro b₁ cs rs b₂
       → Performs count rw ro b (c ∷ cs) (a ∷ rs) b₂
 
-pub record AsTable (count : ℕ) (rw ro : List ℕ) (calls : List Call) (answers : List Answer) (b : Bank) : Type 0 where
+pub record AsTable (count : ℕ) (rw ro : List ℕ) (bank : Bank) (calls : List Call) (answers : List Answer) (b : Bank) : Type 0 where
   pub same : answers ≡ tableRun count rw ro calls .0
   pub shows : Shows (mapOf count rw ro) b (tableRun count rw ro calls .1)
+  pub size : length b ≡ length bank
+  pub beyond : drop bankSize b ≡ drop bankSize bank
 
 module _ (count : ℕ) (first last : List ℕ) where
   runs : {b b′ : Bank} {cs : List Call} {rs : List Answer} → Performs count first last b cs rs b′ → (rs ≡ runBank count first last cs b .0) × (b′ ≡ runBank count first last cs b .1)
@@ -35,8 +39,8 @@ module _ (count : ℕ) (first last : List ℕ) where
       → FreshAccepted count first last bank
       → {cs : List Call} {rs : List Answer} {b : Bank}
       → Performs count first last (freshStep count first last bank .1) cs rs b
-      → AsTable count first last cs rs b
+      → AsTable count first last bank cs rs b
   performed-as-table bank f {cs} h =
       let (x, y) = runs h in
       let t = demand3-after-fresh count first last bank f cs in
-      record { same = x ∙ t .answers; shows = rw y (t .shows) }
+      record { same = x ∙ t .answers; shows = rw y (t .shows); size = rw y (t .size); beyond = rw y (t .beyond) }

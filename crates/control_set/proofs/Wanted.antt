@@ -1,6 +1,6 @@
 -- The AppSels of the chosen lanes as one mask: with none of them in an entry's mask none of its lanes is copied, with all of them
 -- every chosen one.
-use mathlib.Core.Path.{_≡_, refl, sym, ap, _∙_}
+use mathlib.Core.Path.{_≡_, refl, sym, _∙_}
 use mathlib.Core.Logic.{_⊎_, inl, inr, _≢_}
 use mathlib.Core.Bool.{Bool, true, false, _&&_, _||_, not, cond}
 use Prim.Native.Nat.{ℕ, zero, suc, _+_, _-_, _*_, _/_, _%_, _^_, _≤_, _<_}
@@ -12,7 +12,7 @@ use lib.Bits.{bitAnd, bitOr}
 use borrow.Author.Tests.{eq-eqb}
 use lib.Dec.{T, eqb, eqb→eq}
 use Rattle.rules.specs.Numbers.{bitOf, any}
-use Rattle.rules.specs.Descriptor.{isApp, hasApp}
+use Rattle.rules.specs.Descriptor.{isApp}
 use Rattle.rules.specs.Layout.{appSelAt}
 use Rattle.rules.specs.Refuse.{chooses}
 use Rattle.rules.specs.Bank.{Bank, appSelIn, loop}

@@ -6,12 +6,12 @@ use native.Mathlib.Nat.{add-comm, add-zero, zero-add, zero-mul, suc-mul, add-mul
 use native.Mathlib.Omega.{arith}
 use native.Mathlib.Decide.{ℕ-discrete}
 use lib.Arith.{digits-lt, digits-div, digits-mod}
-use lib.Pow.{pow-pos, pow-add, high, low, shr-shr, split, mod-pow-add}
+use lib.Pow.{pow-pos, pow-add, high, low, shr-shr, mod-pow-add}
 use lib.ListN.{length, getD, set, length-set}
 use lib.Seq.{set-getD, set-set, getD-set-same, getD-set-other}
 use Rattle.rules.specs.Numbers.{cut}
 use Rattle.rules.specs.Place.{laneStart, laneByte, laneBit}
-use Rattle.rules.specs.Layout.{bankSize, setStart}
+use Rattle.rules.specs.Layout.{bankSize}
 use Rattle.rules.specs.Bank.{Bank, merge, loop}
 use Rattle.rules.proofs.Lanes.{Width, width-pos, full}
 use Rattle.control_set.specs.declared.plan.Chosen.{Chosen}

@@ -9,7 +9,7 @@ use lib.ListN.{length, getD, set}
 use Rattle.rules.specs.declared.Entry.{Entry}
 use Rattle.rules.specs.Descriptor.{isApp, hasApp, highFirst}
 use Rattle.rules.specs.Numbers.{bitOf, any}
-use Rattle.rules.specs.Load.{mapOf, rwEntries}
+use Rattle.rules.specs.Load.{rwEntries}
 use Rattle.rules.specs.Place.{nothing, partsOf, widthOf}
 use Rattle.rules.specs.Layout.{bankSize}
 use Rattle.rules.specs.Refuse.{chooses}

@@ -22,7 +22,8 @@ pub const ROWS: [u32; 9] = [
     0x18010000, // 12h
 ];
 
-// The row of an ID, from lent constants: for a pass over a string.
+// The row of an ID. A pass over a string lends the constants, which are stored once; a call on one entry names them where it reads
+// them, which is faster there.
 pub fn row_in(classes: &[u8; 19], rows: &[u32; 9], id: usize) -> u32
     requires { ⌜ Tables (now classes) (now rows) ⌝ }
     ensures { λ r. ⌜ r ≡ rowNumber id ⌝ }
@@ -34,7 +35,6 @@ pub fn row_in(classes: &[u8; 19], rows: &[u32; 9], id: usize) -> u32
     rows[0]
 }
 
-// The row of an ID.
 pub fn row_of(id: usize) -> u32
     ensures { λ r. ⌜ r ≡ rowNumber id ⌝ }
 {

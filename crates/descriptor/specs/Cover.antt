@@ -1,4 +1,4 @@
--- The entry whose space covers a byte: "it shall look through the entries in order and stop at the one whose space covers the byte".
+-- The entry whose space covers a byte: the first, in order. No two spaces share a byte.
 use mathlib.Core.Path.{_≡_}
 use mathlib.Core.Bool.{Bool, _&&_, not, cond}
 use mathlib.Core.List.{List, [], _∷_}

@@ -15,7 +15,7 @@ ghost use Rattle.descriptor.specs.Cover.{coverOf};
 mod rows; // constant rows by ID class
 mod step; // one entry: the checks 1 to 7
 mod walk; // one string
-mod wide; // one entry: all of its bytes
+mod wide; // one entry: what a call needs of it
 mod search; // an entry by its number, and by a byte of its space
 mod text; // the map program's text
 

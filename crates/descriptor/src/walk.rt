@@ -1,9 +1,7 @@
 // The walk of one string, entry by entry, and what the load tests before it.
 ghost use mathlib.Core.Path.{_≡_};
-ghost use Prim.Native.Nat.{_≤_};
 ghost use Rattle.rules.specs.declared.Loaded.the-variants.{Refused as rejected};
 ghost use Rattle.rules.specs.declared.Refusal.the-variants.{Plain as plain};
-ghost use Rattle.rules.specs.Descriptor.{maskBytes};
 ghost use Rattle.rules.specs.Load.{walkOf, sized, after};
 ghost use Rattle.descriptor.specs.Walks.{stoppedOf, entering, Ready};
 use crate::step::Stepped;

@@ -11,7 +11,6 @@ pub mod Rows
 pub mod Ids
 pub mod Checks
 pub mod Folds
-pub mod Reached
 pub mod Good
 pub mod Walks
 pub mod Loads

@@ -14,10 +14,6 @@ use Rattle.rules.proofs.Lanes.{lanes-apart}
 use Rattle.rules.proofs.Good.{GoodMap}
 use Rattle.rules.proofs.Places.{Field, field-width, same-entry, same-part}
 
--- what a search of owners finds
-or-gap : (y : Owned) → orElse gap y ≡ y
-or-gap y = refl
-
 first-some : (n : ℕ) (f : ℕ → Owned) (e p i : ℕ) → firstOwner n f ≡ ownedBy e p i → (k : ℕ) × (k < n) × (f k ≡ ownedBy e p i)
 unfolding firstOwner
 first-some zero f e p i h = let o : _≡_ {A = ℕ} 0 1 = cc in absurd (omega arith)

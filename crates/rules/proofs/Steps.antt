@@ -5,13 +5,11 @@ use mathlib.Core.List.{List, _++_}
 use Prim.Native.Nat.{ℕ, _≤_, _<_}
 use lib.ListN.{length}
 use borrow.Author.Tests.{lt-ltb, le-ltb}
-use Rattle.rules.specs.Words.{Refusal, plain, accepted, rejected, Call, refused}
-use Rattle.rules.specs.Load.{Map, sized, stringsOf, loadOf, mapOf}
+use Rattle.rules.specs.Words.{Refusal, plain, rejected, Call, refused}
+use Rattle.rules.specs.Load.{Map, sized, stringsOf, mapOf}
 use Rattle.rules.specs.Layout.{bankSize}
 use Rattle.rules.specs.Refuse.{Verdict, passes, refuses, firstOf, check9, check8, check1to7, orderOf, bankOrder, exists, misdirected, unaccepted, judge}
 use Rattle.rules.specs.Bank.{Bank, bankPlan, bankDoes, bankStep}
-use Rattle.rules.specs.Demands.{Accepted}
-use Rattle.rules.proofs.Verdicts.{order-open, bank-order-open}
 
 -- judge, and what follows it
 module _ (m : Map) (c : Call) (rest : List Verdict) where
@@ -58,34 +56,6 @@ module _ (count : ℕ) (first last : List ℕ) (rest : List Verdict) where
       → bankOrder count first last size rest ≡ refuses r
   unfolding bankOrder check9 check8 check1to7
   bank-order-1to7 size h l r k = rw (h, le-ltb size bankSize l, k)
-
--- 9 and 1 to 7 are passed
-pub record Opened (count : ℕ) (first last : List ℕ) : Type 0 where
-  pub limits : sized count first last ≡ true
-  pub rwCount : ℕ
-  pub roCount : ℕ
-  pub staged : ℕ
-  pub active : ℕ
-  pub strings : stringsOf count first last ≡ accepted rwCount roCount staged active
-
-module _ {count : ℕ} {first last : List ℕ} (o : Opened count first last) where
-  nine : check9 count first last ≡ passes
-  unfolding check9
-  nine = rw (o .limits)
-
-  one-to-seven : check1to7 count first last ≡ passes
-  unfolding check1to7
-  one-to-seven = rw (o .strings)
-
-  pub opened-order : (rest : List Verdict) → orderOf count first last rest ≡ firstOf rest
-  opened-order rest = order-open count first last nine one-to-seven rest
-
-  pub opened-bank-order : (size : ℕ) (rest : List Verdict) → bankSize ≤ size → bankOrder count first last size rest ≡ firstOf rest
-  opened-bank-order size rest l = bank-order-open count first last nine one-to-seven size rest l
-
-  pub opened-accepted : Accepted count first last
-  unfolding loadOf
-  opened-accepted = record { rwCount = o .rwCount; roCount = o .roCount; staged = o .staged; active = o .active; loads = rw (o .limits) (o .strings) }
 
 -- a bank call, from its verdict
 module _ (count : ℕ) (first last : List ℕ) (c : Call) (b : Bank) where

@@ -3,7 +3,7 @@
 use mathlib.Core.Path.{_≡_}
 use mathlib.Core.Logic.{_⊎_}
 use mathlib.Core.Bool.{Bool, true, false}
-use mathlib.Core.List.{List, [], _∷_, _++_}
+use mathlib.Core.List.{List, [], _∷_}
 use Prim.Native.Nat.{ℕ, _+_, _-_, _%_, _≤_, _<_}
 use lib.ListN.{length}
 use lib.Dec.{T}
@@ -11,7 +11,7 @@ use Rattle.rules.specs.Words.{Refusal, plain, atEntry, atLane, Entry, de
 use Rattle.rules.specs.Numbers.{bitOf}
 use Rattle.rules.specs.Parameter.{rowOf}
 use Rattle.rules.specs.Descriptor.{maskBytes, byteAt, decodeAt}
-use Rattle.rules.specs.Load.{start, next, intoRO, Map, mapOf}
+use Rattle.rules.specs.Load.{start, next, intoRO, Map}
 use Rattle.rules.specs.Place.{entry, partsOf, lengthOf}
 use Rattle.rules.specs.Accept.{accepts}
 use Rattle.rules.specs.Layout.{bankSize}

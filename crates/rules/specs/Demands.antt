@@ -1,13 +1,13 @@
 -- The statements: the three demands and the twelve settings. proofs/Demands.antt proves each.
 use mathlib.Core.Path.{_≡_}
-use mathlib.Core.Logic.{_⊎_, _↔_}
+use mathlib.Core.Logic.{_↔_}
 use mathlib.Core.Bool.{Bool, true, false, _||_, cond}
 use mathlib.Core.List.{List, [], _∷_, _++_}
 use Prim.Native.Nat.{ℕ, _+_, _-_, _≤_, _<_}
 use lib.IntN.{pos, negsuc}
 use lib.ListN.{length, getD, take, drop}
 use lib.Dec.{T, eqb}
-use Rattle.rules.specs.Words.{Refusal, plain, atEntry, Entry, decoded, failed, State, accepted, rejected, Call, read, Answer, refused, placedAt, notPlaced, ownedBy, gap, notOwned, noMore, notTaken}
+use Rattle.rules.specs.Words.{Refusal, plain, atEntry, Entry, failed, State, accepted, rejected, Call, read, Answer, refused, placedAt, notPlaced, ownedBy, gap, notOwned, noMore, notTaken}
 use Rattle.rules.specs.Numbers.{cut}
 use Rattle.rules.specs.Descriptor.{maskBytes, hasApp, byteAt, entryAt, decodeAt}
 use Rattle.rules.specs.Load.{start, Map, loadOf, rwEntries, roEntries, total, mapOf}
@@ -18,7 +18,7 @@ use Rattle.rules.specs.Bank.{Bank, numberIn, appSelIn, bankStep, freshSt
 use Rattle.rules.specs.Table.{Table, freshTable, runTable}
 use Rattle.rules.specs.Beside.{placeOf, ownerCall, entryAnswer, entryBytes, weightCall}
 use Rattle.rules.specs.Reader.{takeOf}
-use Rattle.rules.specs.Conditions.{Rule, gives, First, entryRules, Way, PastMedia, Lane, planRules, callRules, stringRules, bankRules, ReaderSized, readerRules}
+use Rattle.rules.specs.Conditions.{gives, First, entryRules, Way, PastMedia, Lane, planRules, callRules, stringRules, bankRules, ReaderSized, readerRules}
 
 -- DEMAND 1: "A refused call gives the number that 01's order picks, changes no byte, and does its own checking."
 

@@ -3,7 +3,7 @@
 use mathlib.Core.Bool.{Bool, true, false, _&&_, _||_, not, cond}
 use mathlib.Core.List.{List, [], _∷_}
 use Prim.Native.Nat.{ℕ, _-_}
-use lib.Dec.{ltb, leb, eqb}
+use lib.Dec.{ltb, eqb}
 use Rattle.rules.specs.Words.{Refusal, plain, atLane, Loaded, accepted, rejected, Call, select, write, read, byteWrite, byteRead, publish, apply, Answer, refused}
 use Rattle.rules.specs.Numbers.{bitOf, lowest}
 use Rattle.rules.specs.Load.{Map, sized, stringsOf}

@@ -19,7 +19,10 @@ use crate::valid;
 use aim::Aim;
 
 /// Lists that are compared.
-const LISTS: u64 = 8_000;
+const LISTS: u64 = 12_000;
+
+/// Lists after an accepted fresh that must be followed to their end, against the plain table.
+const TO_THE_END: u64 = 5_000;
 
 /// The most calls of a list, and of one whose every call is refused.
 const LONGEST: usize = 200;
@@ -73,6 +76,8 @@ pub fn compare(report: &mut Report) {
         };
         compare_list(report, &map.case(), &random);
     }
+    // The bank is compared twice at the end of a list.
+    report.calls.require(&bank::END_BANK, 2 * TO_THE_END);
 }
 
 /// Compares the calls of one list, up to the first on which the programs differ.
@@ -80,7 +85,7 @@ fn compare_list(report: &mut Report, case: &Case, random: &Random) {
     let mut bank = Bank::new(random);
     let aim = Aim::new(case);
     let accepted = aim.accepted && bank.accepted();
-    let fresh_first = random.once_in(2).then_some(Call::Fresh);
+    let fresh_first = (!random.once_in(4)).then_some(Call::Fresh);
     let drawn = aim.calls(random, random.within(1, if accepted { LONGEST } else { REFUSED }));
     for call in fresh_first.into_iter().chain(drawn) {
         let Some(agreed) = bank::compare(report, case, &mut bank, call) else {

@@ -1,0 +1,218 @@
+//! The checks 9, 8 and 1 to 7 in one pass over both strings, which shows each entry to the call as it passes.
+
+use super::rows::{Row, HAS_CODES, HAS_FLAGS, HAS_STEP, HOST_FIRST, IN_RO, IN_RW, ROWS};
+
+/// A refusal's number, and the entry or lane that it names, or 0.
+pub type Refusal = (usize, usize);
+
+/// An entry that has passed its checks.
+#[derive(Clone, Copy)]
+pub struct Entry<'a> {
+    pub number: usize,
+    pub in_ro: bool,
+    pub a: usize,
+    pub start: usize,
+    pub bytes: &'a [u8],
+    pub row: &'static Row,
+    pub offset: usize,
+}
+
+impl Entry<'_> {
+    /// The two bytes at a place, high byte first.
+    #[inline(always)]
+    fn pair(&self, at: usize) -> u16 {
+        match self.bytes.get(at..) {
+            Some(&[high, low, ..]) => u16::from_be_bytes([high, low]),
+            _ => 0,
+        }
+    }
+
+    /// The application mask: bit n means AppSel n + 1.
+    #[inline(always)]
+    pub fn apps(&self) -> u16 {
+        self.pair(2) >> (16 - 8 * self.a)
+    }
+
+    /// The accepted values of a width below 8, as bits.
+    #[inline(always)]
+    pub fn codes(&self) -> u16 {
+        if self.row.traits & HAS_CODES == 0 {
+            return self.row.codes;
+        }
+        self.row.codes & self.pair(usize::from(self.row.least) + self.a - 2)
+    }
+
+    /// The step of a 12h entry.
+    #[inline(always)]
+    pub fn step(&self) -> u8 {
+        self.bytes.get(5 + self.a).copied().unwrap_or(0)
+    }
+}
+
+/// What a call does with each entry as the walk passes it, and with the next one's offset. A later one may be refused.
+pub trait Visit {
+    fn visit(&mut self, entry: Entry, end: usize);
+}
+
+impl Visit for () {
+    #[inline(always)]
+    fn visit(&mut self, _: Entry, _: usize) {}
+}
+
+/// What an accepted map amounts to.
+pub struct Map {
+    a: usize,
+    pub rw_count: usize,
+    pub ro_count: usize,
+    pub staged: usize,
+    pub active: usize,
+}
+
+/// Where the walk stands.
+#[derive(Default)]
+struct Walk {
+    entries: usize,
+    sum: usize,
+    media: bool,
+}
+
+impl Walk {
+    /// One string. The error is the number of the first check that the entry `self.entries` fails.
+    #[inline(always)]
+    fn string<const A: usize>(&mut self, side: u8, string: &[u8], visitor: &mut impl Visit) -> Result<(), usize> {
+        let mut at = 0;
+        while let Some(rest) = string.get(at..).filter(|rest| !rest.is_empty()) {
+            let &[id, length, ..] = rest else { return Err(1) };
+            let length = usize::from(length);
+            let Some(bytes) = rest.get(..length) else { return Err(1) };
+            let row = &ROWS[usize::from(id)];
+            if length < usize::from(row.least) + A {
+                return Err(2);
+            }
+            if row.traits & side == 0 {
+                return Err(3);
+            }
+            // What is read is within the least Length, so no `else` below is taken.
+            let Some(&memory) = bytes.get(2 + A) else { return Err(2) };
+            if memory < row.needed {
+                return Err(4);
+            }
+            if row.traits & HAS_STEP != 0 && bytes.get(5 + A).is_none_or(|&step| step > 3) {
+                return Err(5);
+            }
+            let media = row.traits & HAS_FLAGS != 0 && bytes.get(3 + A).is_some_and(|flags| flags & 1 != 0);
+            if self.media && !media && row.traits & HOST_FIRST != 0 {
+                return Err(6);
+            }
+            let end = self.sum + usize::from(memory);
+            if end > 256 {
+                return Err(7);
+            }
+            let (number, in_ro, offset) = (self.entries, side == IN_RO, self.sum);
+            visitor.visit(Entry { number, in_ro, a: A, start: at, bytes, row, offset }, end);
+            self.media |= media;
+            self.sum = end;
+            self.entries += 1;
+            at += length;
+        }
+        Ok(())
+    }
+}
+
+/// Walks both strings. A call without a bank gives `usize::MAX` as its length.
+#[inline(always)]
+pub fn walk(count: usize, rw: &[u8], ro: &[u8], bank_length: usize, visitor: &mut impl Visit) -> Result<Map, Refusal> {
+    if count.wrapping_sub(1) >= 15 || rw.len() > 120 || ro.len() > 120 {
+        return Err((9, 0));
+    }
+    if bank_length < 784 {
+        return Err((8, 0));
+    }
+    if count <= 8 {
+        both::<1>(rw, ro, visitor)
+    } else {
+        both::<2>(rw, ro, visitor)
+    }
+}
+
+/// A is a constant of the loops, which are compiled for each.
+#[inline(always)]
+fn both<const A: usize>(rw: &[u8], ro: &[u8], visitor: &mut impl Visit) -> Result<Map, Refusal> {
+    let mut walk = Walk::default();
+    walk.string::<A>(IN_RW, rw, visitor).map_err(|number| (number, walk.entries))?;
+    let (rw_count, staged) = (walk.entries, walk.sum);
+    walk.string::<A>(IN_RO, ro, visitor).map_err(|number| (number, walk.entries))?;
+    Ok(Map { a: A, rw_count, ro_count: walk.entries - rw_count, staged, active: walk.sum })
+}
+
+/// Keeps number, start and offset of the entry that a call names.
+struct Find<F> {
+    wanted: F,
+    number: usize,
+    start: usize,
+    offset: usize,
+}
+
+impl<F: Fn(&Entry, usize) -> bool> Visit for Find<F> {
+    #[inline(always)]
+    fn visit(&mut self, entry: Entry, end: usize) {
+        if (self.wanted)(&entry, end) {
+            (self.number, self.start, self.offset) = (entry.number, entry.start, entry.offset);
+        }
+    }
+}
+
+impl<F> Find<F> {
+    fn new(wanted: F) -> Find<F> {
+        Find { wanted, number: 0, start: 0, offset: 0 }
+    }
+
+    /// The entry again, from its string.
+    #[inline(always)]
+    fn entry<'a>(&self, map: &Map, string: &'a [u8], in_ro: bool) -> Result<Entry<'a>, Refusal> {
+        let &Find { number, start, offset, .. } = self;
+        let Some(rest @ &[id, length, ..]) = string.get(start..) else { return Err((10, 0)) };
+        let bytes = rest.get(..length.into()).unwrap_or(rest);
+        Ok(Entry { number, in_ro, a: map.a, start, bytes, row: &ROWS[usize::from(id)], offset })
+    }
+}
+
+/// Walks both strings for a call that names an entry: that entry, or 10.
+#[inline(always)]
+pub fn find_entry<'a>(
+    count: usize,
+    rw: &'a [u8],
+    ro: &'a [u8],
+    bank_length: usize,
+    number: usize,
+) -> Result<Entry<'a>, Refusal> {
+    let mut find = Find::new(|entry: &Entry, _| entry.number == number);
+    let map = walk(count, rw, ro, bank_length, &mut find)?;
+    if number < map.rw_count {
+        find.entry(&map, rw, false)
+    } else if number < map.rw_count + map.ro_count {
+        find.entry(&map, ro, true)
+    } else {
+        Err((10, 0))
+    }
+}
+
+/// Walks both strings for a call that names a byte: the entry whose space has it, or 10.
+#[inline(always)]
+pub fn find_byte<'a>(
+    count: usize,
+    rw: &'a [u8],
+    ro: &'a [u8],
+    bank_length: usize,
+    offset: usize,
+) -> Result<Entry<'a>, Refusal> {
+    let mut find = Find::new(|entry: &Entry, end| entry.offset <= offset && offset < end);
+    let map = walk(count, rw, ro, bank_length, &mut find)?;
+    if offset < map.staged {
+        find.entry(&map, rw, false)
+    } else if offset < map.active {
+        find.entry(&map, ro, true)
+    } else {
+        Err((10, 0))
+    }
+}
