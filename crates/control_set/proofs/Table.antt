@@ -23,7 +23,7 @@ use Rattle.rules.proofs.Tests.{and₂, and₃, and₄, from-true}
 use Rattle.rules.proofs.Rows.{looked-up}
 use Rattle.rules.proofs.Ids.{below, below-at, every-id}
 use Rattle.control_set.specs.Values.{classes, rowNumber, partsIn, widthIn, maskIn, signedIn, codesIn, listedBy, inByte, allowedBy, acceptsBy}
-use Rattle.control_set.specs.Plan.{codesFrom}
+use Rattle.descriptor.specs.Wide.{codesBy}
 use Rattle.control_set.proofs.Bits.{and-bit}
 
 pub class-small : (id : ℕ) → getD classes id 0 < 9
@@ -271,11 +271,11 @@ bits-allowed id mask n h = go (eqb (widthIn (rowNumber id)) 8) refl
     go false q = rw (few-unsigned id q) refl
 
 -- the code mask, read by the row's column
-pub row-codes : (id : ℕ) (s : List ℕ) (at : ℕ) → codesFrom (maskIn (rowNumber id)) s at ≡ codesOf (rowOf id .extras) s at
-unfolding codesFrom codesOf
+pub row-codes : (id : ℕ) (s : List ℕ) (at : ℕ) → codesBy (maskIn (rowNumber id)) s at ≡ codesOf (rowOf id .extras) s at
+unfolding codesBy codesOf
 row-codes id s at = rw (mask-is id) (go (rowOf id .extras))
   where
-    go : (x : Extras) → codesFrom (maskNumber x) s at ≡ codesOf x s at
+    go : (x : Extras) → codesBy (maskNumber x) s at ≡ codesOf x s at
     go none = refl
     go codes = refl
     go indexCodes = refl

@@ -7,7 +7,7 @@ use lib.Bits.{bitOr}
 use lib.Dec.{eqb}
 use lib.ListN.{length, getD, set}
 use Rattle.rules.specs.declared.Entry.{Entry}
-use Rattle.rules.specs.Descriptor.{isApp, hasApp, highFirst}
+use Rattle.rules.specs.Descriptor.{isApp, hasApp}
 use Rattle.rules.specs.Numbers.{bitOf, any}
 use Rattle.rules.specs.Load.{rwEntries}
 use Rattle.rules.specs.Place.{nothing, partsOf, widthOf}
@@ -37,10 +37,6 @@ pub record Listed (count : ℕ) (first : List ℕ) (n : ℕ) : Type 0 where
 pub record Spread (f : Fields) : Type 0 where
   pub whole : 0 < f .parts → Width (f .width)
   pub inside : f .offset + f .parts * f .width ≤ 256
-
--- the code mask by the number of its column
-unfoldable pub codesFrom : ℕ → List ℕ → ℕ → ℕ
-codesFrom column s at = cond (eqb column 0) 0 (cond (eqb column 1) (highFirst s at 2) (highFirst s (at + 1) 2))
 
 abbrev pub fieldsOf : Entry → Fields
 fieldsOf e =

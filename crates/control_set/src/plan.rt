@@ -9,11 +9,12 @@ ghost use Rattle.rules.specs.Refuse.{chooses};
 ghost use Rattle.rules.specs.Bank.{appSelIn};
 ghost use Rattle.descriptor.specs.Wide.{standingAt};
 ghost use Rattle.control_set.specs.Values.{Tables};
-ghost use Rattle.control_set.specs.Plan.{Asked, Listed, Spread, Wants, joinedBy, fieldsOf, codesFrom, copiesBy, lacksBy, badAt, badIn, badAmong, Least};
+ghost use Rattle.control_set.specs.Plan.{Asked, Listed, Spread, Wants, joinedBy, fieldsOf, copiesBy, lacksBy, badAt, badIn, badAmong, Least};
 use crate::accept::listed;
 use crate::accept::row_in;
 use crate::bank::read_field;
 use descriptor::byte_from;
+use descriptor::codes_from;
 use descriptor::mask_bytes;
 use descriptor::pair_from;
 
@@ -44,20 +45,6 @@ fn mask_at(a: usize, s: &[u8], at: usize) -> usize
     pair_from(s, at)
 }
 
-// The code mask of an entry whose extras begin at a place, by the row's column; 0 where its ID has none.
-fn codes_at(column: u32, s: &[u8], at: usize) -> usize
-    requires { ⌜ at ≤ 900 ⌝ }
-    ensures { λ r. ⌜ r ≡ codesFrom column (now (s .entry)) at ⌝ }
-{
-    if column == 0 {
-        return 0;
-    }
-    if column == 1 {
-        return pair_from(s, at);
-    }
-    pair_from(s, at + 1)
-}
-
 // The entry at a place of a string, with its offset in a set.
 pub fn fields_at(
     classes: &[u8; 19],
@@ -72,7 +59,7 @@ pub fn fields_at(
     ensures { λ r. ⌜ r ≡ fieldsOf (entryAt a (now (s .entry)) (standingAt at offset)) ⌝ }
 {
     let row = row_in(classes, rows, byte_from(s, at));
-    let codes = codes_at(row / 0x100000 % 16, s, at + 4 + a);
+    let codes = codes_from(row / 0x100000 % 16, s, at + 4 + a);
     Fields {
         mask: mask_at(a, s, at + 2),
         listed: listed(row, codes),

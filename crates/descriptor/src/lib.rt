@@ -11,6 +11,7 @@ ghost use Rattle.rules.specs.Beside.{entryAnswer, entryBytes};
 ghost use Rattle.descriptor.specs.Locate.{locatedOf};
 ghost use Rattle.descriptor.specs.Find.{foundOf, shapeOf};
 ghost use Rattle.descriptor.specs.Cover.{coverOf};
+ghost use Rattle.descriptor.specs.Wide.{codesBy};
 
 mod rows; // constant rows by ID class
 mod step; // one entry: the checks 1 to 7
@@ -313,6 +314,19 @@ pub fn pair_from(s: &[u8], at: usize) -> usize
 {
     if at < s.len() {
         return byte_from(s, at) * 256 + byte_from(s, at + 1);
+    }
+    0
+}
+
+// The code mask of an entry whose extras begin at a place, by the number of its extras; 0 where there is none.
+pub fn codes_from(extras: u32, s: &[u8], at: usize) -> usize
+    ensures { λ r. ⌜ r ≡ codesBy extras (now (s .entry)) at ⌝ }
+{
+    if extras == 1 {
+        return pair_from(s, at);
+    }
+    if (extras == 2) & (at < s.len()) {
+        return pair_from(s, at + 1);
     }
     0
 }

@@ -4,26 +4,12 @@ ghost use Prim.Native.Nat.{_≤_};
 ghost use Rattle.rules.specs.Descriptor.{entryAt};
 ghost use Rattle.descriptor.specs.Rows.{classes, rows};
 ghost use Rattle.descriptor.specs.Steps.{stepBy};
-ghost use Rattle.descriptor.specs.Wide.{codesBy, standingAt};
+ghost use Rattle.descriptor.specs.Wide.{standingAt};
 ghost use Rattle.descriptor.specs.Find.{entryIn};
 use crate::Found;
-use crate::pair_from;
+use crate::codes_from;
 use crate::rows::row_of;
 use crate::step::byte_at;
-
-// The code mask of an entry whose extras begin at a place, 0 where its ID has none.
-fn codes_at(extras: u32, s: &[u8], at: usize) -> usize
-    requires { ⌜ at ≤ 900 ⌝ }
-    ensures { λ r. ⌜ r ≡ codesBy extras (now (s .entry)) at ⌝ }
-{
-    if extras == 1 {
-        return pair_from(s, at);
-    }
-    if extras == 2 {
-        return pair_from(s, at + 1);
-    }
-    0
-}
 
 // The step byte as the walks read it, 0 past the end of a string.
 fn step_at(extras: u32, s: &[u8], at: usize) -> u8
@@ -57,7 +43,7 @@ pub fn found_at(
         ro: in_ro,
         id: id as usize,
         offset,
-        codes: codes_at(extras, s, at),
+        codes: codes_from(extras, s, at),
         step: step as usize,
     }
 }

@@ -1,7 +1,7 @@
 -- What a test says as a fact: `T t ↔ A`, for the tests of numbers and for what is built of tests.
 use mathlib.Core.Path.{_≡_}
 use mathlib.Core.Logic.{_⊎_, inl, inr, ⊎-elim, _↔_}
-use mathlib.Core.Bool.{Bool, true, false, _&&_, _||_, not}
+use mathlib.Core.Bool.{Bool, true, _&&_, _||_, not}
 use Prim.Native.Nat.{ℕ, _≤_, _<_}
 use lib.Dec.{T, ltb, leb, eqb, ltb→lt, lt→ltb, leb→le, le→leb, eqb→eq, T-not, not-T}
 use borrow.Author.Tests.{eq-eqb}

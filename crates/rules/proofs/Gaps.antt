@@ -1,21 +1,18 @@
 -- The law of `fieldBits`: the bits of a byte that belong to fields are the whole byte where it has fields, and 0 where it has none.
-use mathlib.Core.Path.{_≡_, sym, ap, _∙_}
+use mathlib.Core.Path.{_≡_, ap, _∙_}
 use mathlib.Core.Logic.{_⊎_, inl, inr}
-use mathlib.Core.Bool.{Bool, true, false, not, cond}
-use Prim.Native.Nat.{ℕ, _+_, _*_, _%_, _^_, _<_}
+use mathlib.Core.Bool.{true, false, not, cond}
+use Prim.Native.Nat.{ℕ, _*_, _%_, _^_, _<_}
 use native.Mathlib.Nat.{mul-one}
-use native.Mathlib.Omega.{arith}
 use lib.Dec.{T, T-not}
-use Rattle.rules.specs.Words.{gap}
 use Rattle.rules.specs.Numbers.{cut, sum}
 use Rattle.rules.specs.Load.{Map}
-use Rattle.rules.specs.Place.{entry, covers, ownerOf}
+use Rattle.rules.specs.Place.{ownerOf}
 use Rattle.rules.specs.Bank.{isGap, fieldBits}
 use Rattle.rules.proofs.Tests.{either, is-true, is-false}
 use Rattle.rules.proofs.Sums.{sum-zero, sum-ext}
 use Rattle.rules.proofs.Tile.{digits-sum}
 use Rattle.rules.proofs.Good.{GoodMap}
-use Rattle.rules.proofs.Places.{Field}
 use Rattle.rules.proofs.Cover.{covered, in-covered, in-field, field-covered}
 use Rattle.rules.proofs.Owners.{Covers, covers-says, covers-owner, owner-none}
 

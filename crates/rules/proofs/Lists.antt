@@ -17,7 +17,7 @@ use Rattle.rules.specs.Words.{Call}
 use Rattle.rules.specs.Load.{Map, mapOf}
 use Rattle.rules.specs.Place.{entry, widthOf, signedOf, holds, fieldBit, covers}
 use Rattle.rules.specs.Accept.{fromBits}
-use Rattle.rules.specs.Refuse.{passes, firstOf, judge}
+use Rattle.rules.specs.Refuse.{firstOf, judge}
 use Rattle.rules.specs.Layout.{bankSize, setStart, appSelAt}
 use Rattle.rules.specs.Bank.{Bank, fieldAt, getField, numberIn, bankPlan, freshBank, bankStep, freshStep, runBank}
 use Rattle.rules.specs.Table.{Table, freshTable, tablePlan, tableStep, runTable}
@@ -25,7 +25,7 @@ use Rattle.rules.specs.Demands.{Accepted, bitIn, Shows, bankRun, Demand3
 use Rattle.rules.proofs.Tests.{either}
 use Rattle.rules.proofs.Good.{GoodMap}
 use Rattle.rules.proofs.Walks.{map-good, check9-passes, check1to7-passes}
-use Rattle.rules.proofs.Places.{Field, holds-field, field-holds, in-set}
+use Rattle.rules.proofs.Places.{holds-field, field-holds, in-set}
 use Rattle.rules.proofs.Cover.{covered, in-covered, in-field}
 use Rattle.rules.proofs.Holds.{Holds}
 use Rattle.rules.proofs.Verdicts.{first-append, first-same, judge-passes, order-open, bank-order-open, decide-both}

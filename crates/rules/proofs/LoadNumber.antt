@@ -1,12 +1,12 @@
 -- The refusals of a load are numbers up to 9.
 use mathlib.Core.Bool.{Bool, true, false, cond}
-use mathlib.Core.Path.{_≡_, refl}
+use mathlib.Core.Path.{_≡_}
 use mathlib.Core.List.{List}
 use Prim.Native.Nat.{ℕ, zero, suc, _-_, _≤_}
 use native.Mathlib.Omega.{arith}
 use lib.Dec.{ltb}
 use lib.ListN.{length}
-use Rattle.rules.specs.Words.{Refusal, plain, numberOf, Decoded, decoded, failed, State, Walked, ended, stopped, Loaded, accepted, rejected}
+use Rattle.rules.specs.Words.{Refusal, numberOf, Decoded, decoded, failed, State, Walked, ended, stopped, Loaded, accepted, rejected}
 use Rattle.rules.specs.Descriptor.{maskBytes, refuse, lengthChecks, contentChecks, decodeAt}
 use Rattle.rules.specs.Load.{start, next, intoRO, foldBy, foldOf, onward, walkOf, sized, after, stringsOf, loadOf}
 use Rattle.rules.proofs.Tests.{by-test}

@@ -15,14 +15,14 @@ byte-from-requires c κs = search needs
 row-in-requires : tie.Need-row-in-requires
 row-in-requires c κs = search needs
 
-add-codes-at : tie.Need-add-codes-at
-add-codes-at c = search needs
+add-codes-from : tie.Need-add-codes-from
+add-codes-from c = search needs
 
-add-codes-at-2 : tie.Need-add-codes-at-2
-add-codes-at-2 c = search needs
+add-codes-from-2 : tie.Need-add-codes-from-2
+add-codes-from-2 c = search needs
 
-codes-at-requires : tie.Need-codes-at-requires
-codes-at-requires c κs = search needs
+codes-from-requires : tie.Need-codes-from-requires
+codes-from-requires c κs = search needs
 
 add-mask-at : tie.Need-add-mask-at
 add-mask-at c = search needs
@@ -48,7 +48,7 @@ returns c =
     let i = r .before in
     let g = i .before .before .args in
     let id = byteAt (now (g .s)) (g .at) in
-    rw (c .listed .ensures, m .mask-at .ensures, k .codes-at .ensures, r .row-in .ensures, i .byte-from .ensures .0, row-codes id (now (g .s)) (g .at + 4 + g .a), row-parts id, row-width id) refl
+    rw (c .listed .ensures, m .mask-at .ensures, k .codes-from .ensures, r .row-in .ensures, i .byte-from .ensures .0, row-codes id (now (g .s)) (g .at + 4 + g .a), row-parts id, row-width id) refl
 
 pub fields-at-spec : {M : Type 1} → statement M
 fields-at-spec =
@@ -56,9 +56,9 @@ fields-at-spec =
     (tie.spec
     byte-from-requires
     row-in-requires
-    add-codes-at
-    add-codes-at-2
-    codes-at-requires
+    add-codes-from
+    add-codes-from-2
+    codes-from-requires
     add-mask-at
     mask-at-requires
     listed-requires

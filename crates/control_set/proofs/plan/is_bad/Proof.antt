@@ -1,7 +1,7 @@
 -- `is_bad` meets its contract.
 use borrow.Author.Tests.{ne-eqb}
 use Rattle.control_set.proofs.Bits.{bit-off}
-use mathlib.Core.Path.{_≡_, sym, _∙_}
+use mathlib.Core.Path.{sym, _∙_}
 use Prim.Native.Nat.{_≤_, _<_}
 use native.Mathlib.Omega.{arith}
 use lib.Pow.{pow-mono}

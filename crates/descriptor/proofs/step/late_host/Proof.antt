@@ -1,6 +1,6 @@
 -- `late_host` meets its contract.
 use mathlib.Core.Path.{refl}
-use mathlib.Core.Bool.{true, false, _&&_, not, and-true, and-false}
+use mathlib.Core.Bool.{not, and-true, and-false}
 use lib.Dec.{leb}
 use Rattle.descriptor.proofs.step.late_host.Statement.{statement}
 use Rattle.descriptor.proofs.step.late_host.Tie as tie

@@ -1,13 +1,9 @@
 -- `put_map` meets its contract.
 use borrow.Author.Needs.{needs}
 use mathlib.Core.Path.{_≡_, refl}
-use mathlib.Core.Bool.{true, false}
 use native.Mathlib.Omega.{arith}
 use lib.ListN.{length}
 use denote.Ref.{now}
-use Rattle.rules.specs.Descriptor.{maskBytes}
-use Rattle.rules.specs.Load.{start, intoRO}
-use Rattle.descriptor.specs.Text.{Listing}
 use Rattle.descriptor.proofs.Maps.{sizes, middle, end-sum, map-printed}
 use Rattle.descriptor.proofs.text.put_map.Statement.{statement}
 use Rattle.descriptor.proofs.text.put_map.Tie as tie

@@ -23,8 +23,8 @@ step-at-requires c κs = search needs
 cast-t13 : tie.Need-cast-t13
 cast-t13 c = search needs
 
-codes-at-requires : tie.Need-codes-at-requires
-codes-at-requires c κs = search needs
+codes-from-requires : tie.Need-codes-from-requires
+codes-from-requires c κs = search needs
 
 cast-t15 : tie.Need-cast-t15
 cast-t15 c = search needs
@@ -35,7 +35,7 @@ returns c =
     let ro = st .before in
     let b = ro .before in
     let g = b .before .before .args in
-    rw (c .codes-at .ensures, st .step-at .ensures, ro .row-of .ensures, b .byte-at .ensures)
+    rw (c .codes-from .ensures, st .step-at .ensures, ro .row-of .ensures, b .byte-at .ensures)
     (brief-entry (g .in-ro) (g .a) (now (g .s)) (g .start) (g .offset))
 
 pub found-at-spec : {M : Type 1} → statement M
@@ -48,6 +48,6 @@ found-at-spec =
     add-at-2
     step-at-requires
     cast-t13
-    codes-at-requires
+    codes-from-requires
     cast-t15
     returns)
