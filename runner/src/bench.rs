@@ -114,7 +114,7 @@ impl Subject {
         let case = map.case();
         let args = |set, (entry, value)| {
             let offset = engine::place(case.count, case.rw, case.ro, set, entry, 0, LANE).byte;
-            let position = engine::locate(case.count, case.rw, case.ro, entry).start;
+            let position = engine::entry(case.count, case.rw, case.ro, entry).start;
             let call =
                 FlatCall { kind: 1, set, entry, part: 0, lane: LANE, offset, app: APP, value, byte: 0x21, lanes: 0xFF };
             Args { call, bit: 4, position }
@@ -127,17 +127,18 @@ impl Subject {
 
 /// A bank with accepted numbers in all fields of staged set 0 and of the active set, and the application in each lane.
 fn planned(case: &Case) -> Vec<u8> {
+    let Case { count, rw, ro } = *case;
     let mut bank = vec![0; 784];
-    let loaded = engine::load(case.count, case.rw, case.ro);
+    let loaded = engine::load(count, rw, ro);
     assert_eq!(loaded.refusal, 0, "a timed map is accepted: {case}");
     for lane in 1..=8 {
-        engine::select(case, &mut bank, 0, lane, APP);
+        engine::select(count, rw, ro, &mut bank, 0, lane, APP);
         for entry in 0..loaded.entries() {
             for part in 0..2 {
                 let values = (0..16).map(|value| (value + (entry + lane) as i64) % 16);
                 let mut accepts = |value: &i64| {
-                    engine::write(case, &mut bank, 0, entry, part, lane, *value).refusal == 0
-                        || engine::publish(case, &mut bank, entry, part, lane, *value).refusal == 0
+                    engine::write(count, rw, ro, &mut bank, 0, entry, part, lane, *value).refusal == 0
+                        || engine::publish(count, rw, ro, &mut bank, entry, part, lane, *value).refusal == 0
                 };
                 values.into_iter().find(|value| accepts(value));
             }
@@ -300,24 +301,16 @@ fn sample<A>(mut call: impl FnMut() -> A) -> f64 {
     start.elapsed().as_nanos() as f64 / f64::from(CALLS)
 }
 
-/// A row's line. Its call is written once, for both programs; `bank` stands for the lent bank, if it takes one.
+/// A row's line. Its call is written once, for both programs.
 macro_rules! row {
-    ($bench:ident, $name:literal, $row:expr, $of:expr, |$a:ident| $call:ident(bank $(, $value:expr)*)) => {
+    ($bench:ident, $name:literal, $row:expr, $of:expr, |$bank:pat_param, $a:pat_param|
+     $call:ident($($value:expr),*)) => {
         $bench.row(
             $name,
             &$row,
             $of,
-            |case, bank, $a| engine::$call(case, bank $(, $value)*),
-            |case, bank, $a| peer::$call(case.count, case.rw, case.ro, bank $(, $value)*),
-        )
-    };
-    ($bench:ident, $name:literal, $row:expr, $of:expr, |$a:ident| $call:ident($($value:expr),*)) => {
-        $bench.row(
-            $name,
-            &$row,
-            $of,
-            |case, _, $a| engine::$call(case.count, case.rw, case.ro $(, $value)*),
-            |case, _, $a| peer::$call(case.count, case.rw, case.ro $(, $value)*),
+            |case, $bank, $a| engine::$call(case.count, case.rw, case.ro $(, $value)*),
+            |case, $bank, $a| peer::$call(case.count, case.rw, case.ro $(, $value)*),
         )
     };
 }
@@ -340,24 +333,24 @@ fn rows(bench: &mut Bench) {
     let one_lane = |&Subject { staged, .. }: &Subject| {
         Args { call: FlatCall { lanes: 1 << (LANE - 1), ..staged.call }, ..staged }
     };
-    row!(bench, "load", load::CALL, staged, |_a| load());
-    row!(bench, "entry", entry::CALL, active, |a| locate(a.entry));
-    row!(bench, "place", place::CALL, active, |a| place(a.set, a.entry, a.part, a.lane));
-    row!(bench, "owner", owner::CALL, active, |a| owner(a.set, a.offset, a.bit));
-    row!(bench, "fresh", FRESH, staged, |_a| fresh(bank));
-    row!(bench, "select", SELECT, staged, |a| select(bank, a.set, a.lane, a.app));
-    row!(bench, "write", WRITE, staged, |a| write(bank, a.set, a.entry, a.part, a.lane, a.value));
-    row!(bench, "read", READ, active, |a| read(bank, a.set, a.entry, a.part, a.lane));
-    row!(bench, "byte write", BYTE_WRITE, staged, |a| byte_write(bank, a.set, a.offset, a.byte));
-    row!(bench, "byte read", BYTE_READ, active, |a| byte_read(bank, a.set, a.offset));
-    row!(bench, "publish", PUBLISH, active, |a| publish(bank, a.entry, a.part, a.lane, a.value));
-    row!(bench, "apply, all lanes", APPLY, staged, |a| apply(bank, a.set, a.lanes));
-    row!(bench, "apply, one lane", APPLY, one_lane, |a| apply(bank, a.set, a.lanes));
-    row!(bench, "weight", WEIGHT, active, |a| weight(bank, a.entry, a.lane));
+    row!(bench, "load", load::CALL, staged, |_, _| load());
+    row!(bench, "entry", entry::CALL, active, |_, a| entry(a.entry));
+    row!(bench, "place", place::CALL, active, |_, a| place(a.set, a.entry, a.part, a.lane));
+    row!(bench, "owner", owner::CALL, active, |_, a| owner(a.set, a.offset, a.bit));
+    row!(bench, "fresh", FRESH, staged, |bank, _| fresh(bank));
+    row!(bench, "select", SELECT, staged, |bank, a| select(bank, a.set, a.lane, a.app));
+    row!(bench, "write", WRITE, staged, |bank, a| write(bank, a.set, a.entry, a.part, a.lane, a.value));
+    row!(bench, "read", READ, active, |bank, a| read(bank, a.set, a.entry, a.part, a.lane));
+    row!(bench, "byte write", BYTE_WRITE, staged, |bank, a| byte_write(bank, a.set, a.offset, a.byte));
+    row!(bench, "byte read", BYTE_READ, active, |bank, a| byte_read(bank, a.set, a.offset));
+    row!(bench, "publish", PUBLISH, active, |bank, a| publish(bank, a.entry, a.part, a.lane, a.value));
+    row!(bench, "apply, all lanes", APPLY, staged, |bank, a| apply(bank, a.set, a.lanes));
+    row!(bench, "apply, one lane", APPLY, one_lane, |bank, a| apply(bank, a.set, a.lanes));
+    row!(bench, "weight", WEIGHT, active, |bank, a| weight(bank, a.entry, a.lane));
     bench.row(
         "take", &take::CALL, staged,
         |case, _, a| engine::take(case.count, case.rw, a.position),
         |case, _, a| peer::take(case.count, case.rw, a.position),
     );
-    row!(bench, "perform (write)", PERFORM, staged, |a| perform(bank, a.call));
+    row!(bench, "perform (write)", PERFORM, staged, |bank, a| perform(bank, a.call));
 }

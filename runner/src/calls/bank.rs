@@ -115,20 +115,27 @@ impl Said {
 /// The row and the engine's answer of a call.
 fn of_engine(case: &Case, bank: &mut [u8], call: Call) -> (&'static Row, Said) {
     use second::Call::{Apply, ByteRead, ByteWrite, Publish, Read, Select, Write};
+    let Case { count, rw, ro } = *case;
     let listed = match call {
-        Call::Fresh => return (&FRESH, Said::Loaded(engine::fresh(case, bank))),
-        Call::Weight { entry, lane } => return (&WEIGHT, Said::Answered(engine::weight(case, bank, entry, lane))),
-        Call::Unknown(call) => return (&UNKNOWN, Said::Answered(engine::perform(case, bank, call))),
+        Call::Fresh => return (&FRESH, Said::Loaded(engine::fresh(count, rw, ro, bank))),
+        Call::Weight { entry, lane } => {
+            return (&WEIGHT, Said::Answered(engine::weight(count, rw, ro, bank, entry, lane)))
+        }
+        Call::Unknown(call) => return (&UNKNOWN, Said::Answered(engine::perform(count, rw, ro, bank, call))),
         Call::Listed(listed) => listed,
     };
     let (row, answered) = match listed {
-        Select { set, lane, app } => (&SELECT, engine::select(case, bank, set, lane, app)),
-        Write { set, entry, part, lane, value } => (&WRITE, engine::write(case, bank, set, entry, part, lane, value)),
-        Read { set, entry, part, lane } => (&READ, engine::read(case, bank, set, entry, part, lane)),
-        Publish { entry, part, lane, value } => (&PUBLISH, engine::publish(case, bank, entry, part, lane, value)),
-        ByteWrite { set, offset, byte } => (&BYTE_WRITE, engine::byte_write(case, bank, set, offset, byte)),
-        ByteRead { set, offset } => (&BYTE_READ, engine::byte_read(case, bank, set, offset)),
-        Apply { set, lanes } => (&APPLY, engine::apply(case, bank, set, lanes)),
+        Select { set, lane, app } => (&SELECT, engine::select(count, rw, ro, bank, set, lane, app)),
+        Write { set, entry, part, lane, value } => {
+            (&WRITE, engine::write(count, rw, ro, bank, set, entry, part, lane, value))
+        }
+        Read { set, entry, part, lane } => (&READ, engine::read(count, rw, ro, bank, set, entry, part, lane)),
+        Publish { entry, part, lane, value } => {
+            (&PUBLISH, engine::publish(count, rw, ro, bank, entry, part, lane, value))
+        }
+        ByteWrite { set, offset, byte } => (&BYTE_WRITE, engine::byte_write(count, rw, ro, bank, set, offset, byte)),
+        ByteRead { set, offset } => (&BYTE_READ, engine::byte_read(count, rw, ro, bank, set, offset)),
+        Apply { set, lanes } => (&APPLY, engine::apply(count, rw, ro, bank, set, lanes)),
     };
     (row, Said::Answered(answered))
 }
@@ -229,7 +236,7 @@ pub fn compare(report: &mut Report, case: &Case, bank: &mut Bank, call: Call) ->
     let said = of_second(case, &mut second[..length], call);
     let mut others = vec![("second", After { said, before: &before, buffer: second })];
     if let Call::Listed(listed) = call {
-        let answered = engine::perform(case, &mut performed[..length], flat(listed));
+        let answered = engine::perform(case.count, case.rw, case.ro, &mut performed[..length], flat(listed));
         report.calls.count(&PERFORM, answered.refusal);
         others.push(("perform", After { said: Said::Answered(answered), before: &before, buffer: performed }));
         if let Some(table) = &mut bank.table {
@@ -260,14 +267,14 @@ pub fn compare_end(report: &mut Report, case: &Case, bank: &Bank, entries: &[usi
     for (set, &entry) in (0..3).flat_map(|set| entries.iter().map(move |entry| (set, entry))) {
         for (part, lane) in (0..2).flat_map(|part| (1..=8).map(move |lane| (part, lane))) {
             let call = second::Call::Read { set, entry, part, lane };
-            let answered = engine::read(case, &lent, set, entry, part, lane);
+            let answered = engine::read(case.count, case.rw, case.ro, &lent, set, entry, part, lane);
             let others = [("table", as_engine(table.perform(call)))];
             report.compare(&END_READ, &format_args!("{case} bank {hex} {call:?}"), &answered, &others);
         }
     }
     for (set, lane) in (0..2).flat_map(|set| (0..8).map(move |lane| (set, lane))) {
         let call = second::Call::Apply { set, lanes: 1 << lane };
-        let answered = engine::apply(case, &mut lent, set, 1 << lane);
+        let answered = engine::apply(case.count, case.rw, case.ro, &mut lent, set, 1 << lane);
         let others = [("table", as_engine(table.perform(call)))];
         report.compare(&END_APPLY, &format_args!("{case} bank {hex} {call:?}"), &answered, &others);
     }

@@ -73,8 +73,8 @@ pub fn compare(report: &mut Report, case: &Case, loaded: &Loaded) {
     };
     let far = FAR[(case.rw.len() + case.ro.len()) % FAR.len()];
     for entry in near.chain([far]) {
-        let engine = Part::new(case, engine::locate(case.count, case.rw, case.ro, entry));
-        let peer = Part::new(case, peer::locate(case.count, case.rw, case.ro, entry));
+        let engine = Part::new(case, engine::entry(case.count, case.rw, case.ro, entry));
+        let peer = Part::new(case, peer::entry(case.count, case.rw, case.ro, entry));
         let others = [("second", of_second(case, &entries, entry)), ("peer", peer)];
         report.compare(&CALL, &format_args!("{case} entry {entry}"), &engine, &others);
     }

@@ -247,8 +247,9 @@ fn mask(case: &Case, start: usize) -> usize {
 
 /// The values at an edge, or below 16, that the engine's write accepts for an RW entry.
 fn accepted_values(case: &Case, entry: usize) -> Vec<i64> {
-    let bank = Bank::ones();
-    let accepts = |&value: &i64| engine::write(case, &mut bank.lent().to_vec(), 0, entry, 0, 1, value).refusal == 0;
+    let (Case { count, rw, ro }, bank) = (*case, Bank::ones());
+    let write = |value| engine::write(count, rw, ro, &mut bank.lent().to_vec(), 0, entry, 0, 1, value);
+    let accepts = |&value: &i64| write(value).refusal == 0;
     (0..16).chain(VALUES).filter(accepts).collect()
 }
 

@@ -99,7 +99,7 @@ pub fn count(report: &mut Report, case: &Case, aim: &Aim, set: usize, lanes: u8,
     let mut look = Look { case, aim, agreed, set, lanes, changed, lacking, bad };
     for lane in chosen(lanes) {
         let mut bank = agreed.before.clone();
-        match engine::apply(case, &mut bank, set, 1 << (lane - 1)).refusal {
+        match engine::apply(case.count, case.rw, case.ro, &mut bank, set, 1 << (lane - 1)).refusal {
             13 => look.lacking.push(lane),
             14 => look.bad.push(lane),
             _ if bank != agreed.before => look.changed.push(lane),

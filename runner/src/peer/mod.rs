@@ -119,7 +119,7 @@ calls! {
         passed!(walk(count, rw, ro, NO_BANK, &mut ())).into()
     }
 
-    fn locate(count: usize, rw: &[u8], ro: &[u8], entry: usize) -> Located {
+    fn entry(count: usize, rw: &[u8], ro: &[u8], entry: usize) -> Located {
         let e = passed!(find_entry(count, rw, ro, NO_BANK, entry));
         Located { refusal: 0, at: 0, string: e.in_ro.into(), start: e.start, length: e.bytes.len(), offset: e.offset }
     }

@@ -1,0 +1,212 @@
+// The versatile control set engine: Rust interface of libvcs.a. A program takes this file as a module:
+//
+//     #[path = "../include/vcs.rs"]
+//     mod vcs;
+//
+// Each call is a function on slices, `vcs::load(count, &rw, &ro)`; below them stand the exports of vcs.h, `vcs_load`.
+//
+// No call changes a byte of a string. A bank under 784 bytes is refused with 8. No call changes a byte beyond 784, and
+// a refused call changes none.
+// Every number may have any value: what doesn't exist is refused. In an answer, `refusal` is 0 if the call is accepted,
+// otherwise document 01's number; `at` is then the entry that 1 to 7 name, or the lane that 13 and 14 name, else 0. All
+// other members are 0 in a refused answer, but for the reader's position.
+
+/// Both entry counts, staged and active length.
+#[repr(C)]
+#[derive(Clone, Copy, Debug, Default, PartialEq, Eq)]
+pub struct Loaded {
+    pub refusal: usize,
+    pub at: usize,
+    pub rw_count: usize,
+    pub ro_count: usize,
+    pub staged_length: usize,
+    pub active_length: usize,
+}
+
+/// Where an entry stands: in which string (0 RW, 1 RO), its start and length there, and its offset in a set.
+#[repr(C)]
+#[derive(Clone, Copy, Debug, Default, PartialEq, Eq)]
+pub struct Located {
+    pub refusal: usize,
+    pub at: usize,
+    pub string: usize,
+    pub start: usize,
+    pub length: usize,
+    pub offset: usize,
+}
+
+/// Where a field stands in a set: its byte, and its lowest bit there, 0 to 7.
+#[repr(C)]
+#[derive(Clone, Copy, Debug, Default, PartialEq, Eq)]
+pub struct Placed {
+    pub refusal: usize,
+    pub at: usize,
+    pub byte: usize,
+    pub bit: usize,
+}
+
+/// Whose a bit of a set is: entry, part and lane (1 to 8) of its field. In a gap `gap` is 1 and these are 0.
+#[repr(C)]
+#[derive(Clone, Copy, Debug, Default, PartialEq, Eq)]
+pub struct Owned {
+    pub refusal: usize,
+    pub at: usize,
+    pub gap: usize,
+    pub entry: usize,
+    pub part: usize,
+    pub lane: usize,
+}
+
+/// What a call on a bank says: `number` is what read, byte read and weight answer; of the other calls it is 0, and
+/// `refusal` 0 means yes.
+#[repr(C)]
+#[derive(Clone, Copy, Debug, Default, PartialEq, Eq)]
+pub struct Answer {
+    pub refusal: usize,
+    pub at: usize,
+    pub number: i64,
+}
+
+/// What the reader's step gives: an entry's start and length, or the end (`end` is 1, and these are 0); and the
+/// position after it, which is the one before unless an entry was given.
+#[repr(C)]
+#[derive(Clone, Copy, Debug, Default, PartialEq, Eq)]
+pub struct Taken {
+    pub refusal: usize,
+    pub end: usize,
+    pub start: usize,
+    pub length: usize,
+    pub position: usize,
+}
+
+/// A call as data. Each kind reads its own arguments and ignores the other members:
+/// 0 select (set, lane, app), 1 write (set, entry, part, lane, value), 2 read (set, entry, part, lane),
+/// 3 byte write (set, offset, byte), 4 byte read (set, offset), 5 publish (entry, part, lane, value),
+/// 6 apply (set, lanes). A kind above 6 doesn't exist: refused with 10, after 9, 8 and 1 to 7.
+#[repr(C)]
+#[derive(Clone, Copy, Debug, Default, PartialEq, Eq)]
+pub struct Call {
+    pub kind: usize,
+    pub set: usize,
+    pub entry: usize,
+    pub part: usize,
+    pub lane: usize,
+    pub offset: usize,
+    pub app: usize,
+    pub value: i64,
+    pub byte: u8,
+    pub lanes: u8,
+}
+
+/// Functions, each with what it hands on to its export after the count of applications and both strings.
+macro_rules! calls {
+    ($($(#[$doc:meta])*
+    $name:ident($($argument:ident: $type:ty),*) -> $answer:ty = $export:ident($($value:expr),*);)*) => {$(
+        $(#[$doc])*
+        #[allow(dead_code, clippy::too_many_arguments)]
+        #[inline]
+        pub fn $name(count: usize, rw: &[u8], ro: &[u8] $(, $argument: $type)*) -> $answer {
+            // Each pointer and length is a slice's own. An export takes any number and keeps no pointer.
+            unsafe { $export(count, rw.as_ptr(), rw.len(), ro.as_ptr(), ro.len() $(, $value)*) }
+        }
+    )*};
+}
+
+calls! {
+    /// The load: the check of both strings. Refusals 9, 1 to 7.
+    load() -> Loaded = vcs_load();
+
+    /// The entry call: the entry's own bytes are `length` bytes from `start` of its string. Refusals 9, 1 to 7, 10.
+    entry(entry: usize) -> Located = vcs_entry(entry);
+
+    /// The place call: the field of an entry, part and lane (1 to 8) in staged set 0 or 1, or in the active set, 2.
+    /// Refusals 9, 1 to 7, 10, 11.
+    place(set: usize, entry: usize, part: usize, lane: usize) -> Placed = vcs_place(set, entry, part, lane);
+
+    /// The owner call: bit 0 to 7 of the byte at an offset of a set. Refusals 9, 1 to 7, 10.
+    owner(set: usize, offset: usize, bit: usize) -> Owned = vcs_owner(set, offset, bit);
+
+    /// Fresh: clears the bank, and answers as the load does. Refusals 9, 8, 1 to 7.
+    fresh(bank: &mut [u8]) -> Loaded = vcs_fresh(bank.as_mut_ptr(), bank.len());
+
+    /// Select: stores an app, 0 to count, as AppSel of a lane (1 to 8) of staged set 0 or 1. Refusals 9, 8, 1 to 7,
+    /// 10 to 12.
+    select(bank: &mut [u8], set: usize, lane: usize, app: usize) -> Answer =
+        vcs_select(bank.as_mut_ptr(), bank.len(), set, lane, app);
+
+    /// Write: stores an accepted value in a field of an RW entry in staged set 0 or 1. Refusals 9, 8, 1 to 7, 10 to 12.
+    write(bank: &mut [u8], set: usize, entry: usize, part: usize, lane: usize, value: i64) -> Answer =
+        vcs_write(bank.as_mut_ptr(), bank.len(), set, entry, part, lane, value);
+
+    /// Read: the number of a field in set 0, 1 or 2. Refusals 9, 8, 1 to 7, 10, 11.
+    read(bank: &[u8], set: usize, entry: usize, part: usize, lane: usize) -> Answer =
+        vcs_read(bank.as_ptr(), bank.len(), set, entry, part, lane);
+
+    /// Publish: stores an accepted value in a field of an RO entry in the active set. Refusals 9, 8, 1 to 7, 10 to 12.
+    publish(bank: &mut [u8], entry: usize, part: usize, lane: usize, value: i64) -> Answer =
+        vcs_publish(bank.as_mut_ptr(), bank.len(), entry, part, lane, value);
+
+    /// Byte write: stores a byte of staged set 0 or 1, any value, with its gaps 0. Refusals 9, 8, 1 to 7, 10, 11.
+    byte_write(bank: &mut [u8], set: usize, offset: usize, byte: u8) -> Answer =
+        vcs_byte_write(bank.as_mut_ptr(), bank.len(), set, offset, byte);
+
+    /// Byte read: the byte at an offset of set 0, 1 or 2, with its gaps 0. Refusals 9, 8, 1 to 7, 10.
+    byte_read(bank: &[u8], set: usize, offset: usize) -> Answer =
+        vcs_byte_read(bank.as_ptr(), bank.len(), set, offset);
+
+    /// Apply: for each chosen lane (bit i - 1 of `lanes` is lane i), copies each RW field whose entry's mask has the
+    /// lane's AppSel from staged set 0 or 1 to the active set; all or nothing. An empty mask changes nothing and is
+    /// accepted. Refusals 9, 8, 1 to 7, 10, 11, 13, 14.
+    apply(bank: &mut [u8], set: usize, lanes: u8) -> Answer = vcs_apply(bank.as_mut_ptr(), bank.len(), set, lanes);
+
+    /// Perform: a call given as data; its answer and refusals are those of its kind.
+    perform(bank: &mut [u8], call: Call) -> Answer = vcs_perform(bank.as_mut_ptr(), bank.len(), call);
+
+    /// Weight: the active number of a 12h field, in thousandths. Refusals 9, 8, 1 to 7, 10.
+    weight(bank: &[u8], entry: usize, lane: usize) -> Answer = vcs_weight(bank.as_ptr(), bank.len(), entry, lane);
+}
+
+/// The reader's step over one string at any position: the entry that begins there, or the end if no byte is left from
+/// it on. From 0 on, each step at the position that the one before gave, it gives the string's entries in order.
+/// Refusals 9, 1, 2.
+#[allow(dead_code)]
+#[inline]
+pub fn take(count: usize, string: &[u8], position: usize) -> Taken {
+    unsafe { vcs_take(count, string.as_ptr(), string.len(), position) }
+}
+
+// The exports. Strings and banks are lent as a pointer and a length; null with length 0 is an empty string. A bank
+// overlaps no string.
+#[rustfmt::skip]
+#[allow(dead_code)]
+unsafe extern "C" {
+    pub fn vcs_load(count: usize, rw: *const u8, rw_length: usize, ro: *const u8, ro_length: usize) -> Loaded;
+    pub fn vcs_entry(count: usize, rw: *const u8, rw_length: usize, ro: *const u8, ro_length: usize,
+                     entry: usize) -> Located;
+    pub fn vcs_place(count: usize, rw: *const u8, rw_length: usize, ro: *const u8, ro_length: usize,
+                     set: usize, entry: usize, part: usize, lane: usize) -> Placed;
+    pub fn vcs_owner(count: usize, rw: *const u8, rw_length: usize, ro: *const u8, ro_length: usize,
+                     set: usize, offset: usize, bit: usize) -> Owned;
+    pub fn vcs_fresh(count: usize, rw: *const u8, rw_length: usize, ro: *const u8, ro_length: usize,
+                     bank: *mut u8, bank_length: usize) -> Loaded;
+    pub fn vcs_select(count: usize, rw: *const u8, rw_length: usize, ro: *const u8, ro_length: usize,
+                      bank: *mut u8, bank_length: usize, set: usize, lane: usize, app: usize) -> Answer;
+    pub fn vcs_write(count: usize, rw: *const u8, rw_length: usize, ro: *const u8, ro_length: usize,
+                     bank: *mut u8, bank_length: usize, set: usize, entry: usize, part: usize, lane: usize,
+                     value: i64) -> Answer;
+    pub fn vcs_read(count: usize, rw: *const u8, rw_length: usize, ro: *const u8, ro_length: usize,
+                    bank: *const u8, bank_length: usize, set: usize, entry: usize, part: usize, lane: usize) -> Answer;
+    pub fn vcs_publish(count: usize, rw: *const u8, rw_length: usize, ro: *const u8, ro_length: usize,
+                       bank: *mut u8, bank_length: usize, entry: usize, part: usize, lane: usize, value: i64) -> Answer;
+    pub fn vcs_byte_write(count: usize, rw: *const u8, rw_length: usize, ro: *const u8, ro_length: usize,
+                          bank: *mut u8, bank_length: usize, set: usize, offset: usize, byte: u8) -> Answer;
+    pub fn vcs_byte_read(count: usize, rw: *const u8, rw_length: usize, ro: *const u8, ro_length: usize,
+                         bank: *const u8, bank_length: usize, set: usize, offset: usize) -> Answer;
+    pub fn vcs_apply(count: usize, rw: *const u8, rw_length: usize, ro: *const u8, ro_length: usize,
+                     bank: *mut u8, bank_length: usize, set: usize, lanes: u8) -> Answer;
+    pub fn vcs_perform(count: usize, rw: *const u8, rw_length: usize, ro: *const u8, ro_length: usize,
+                       bank: *mut u8, bank_length: usize, call: Call) -> Answer;
+    pub fn vcs_weight(count: usize, rw: *const u8, rw_length: usize, ro: *const u8, ro_length: usize,
+                      bank: *const u8, bank_length: usize, entry: usize, lane: usize) -> Answer;
+    pub fn vcs_take(count: usize, string: *const u8, string_length: usize, position: usize) -> Taken;
+}
