@@ -172,6 +172,7 @@ calls! {
 #[allow(dead_code)]
 #[inline]
 pub fn take(count: usize, string: &[u8], position: usize) -> Taken {
+    // As above.
     unsafe { vcs_take(count, string.as_ptr(), string.len(), position) }
 }
 

@@ -6,7 +6,6 @@ use mathlib.Core.List.{List, _++_}
 use Prim.Native.Nat.{ℕ, suc, _<_}
 use lib.ListN.{length, getD}
 use lib.Dec.{eqb}
-use lib.IntN.{ℤ}
 use Rattle.rules.specs.declared.Entry.{Entry}
 use Rattle.rules.specs.declared.Call.{Call}
 use Rattle.rules.specs.declared.Answer.the-variants.{Yes as saysYes, Refused as refused}
@@ -25,11 +24,11 @@ use Rattle.rules.proofs.PlaceOwner.{both-ways}
 use Rattle.rules.proofs.EntryHeads.{in-rw}
 use Rattle.control_set.specs.declared.plan.Chosen.{Chosen}
 use Rattle.control_set.specs.Field.{bitsAt}
-use Rattle.control_set.specs.Values.{rowNumber, widthIn, signedIn, listedBy, allowedBy}
 use Rattle.control_set.specs.Gate.{Opened}
 use Rattle.control_set.specs.Plan.{Asked, Listed, fieldsOf, copiesBy, lacksBy, badAt, badIn, badAmong, copyLane, copyPart, copyEntry, copyAmong, Least}
 use Rattle.control_set.proofs.Spots.{bits-at-lt, bits-field, with-field, number-field}
-use Rattle.control_set.proofs.Table.{row-width, values-signed, values-accepts, accepts-entry, bits-allowed}
+use Rattle.descriptor.specs.Find.{listedOf}
+use Rattle.descriptor.proofs.Accepts.{bits-accepted}
 use Rattle.control_set.proofs.Ways.{opened-accepted, count-top, call-10, call-11}
 use Rattle.control_set.proofs.Leasts.{least-ext, lowest-refuses, lowest-passes}
 use Rattle.control_set.proofs.Copies.{loop-ext}
@@ -67,25 +66,17 @@ module _ (count : ℕ) (first last : List ℕ) (s lanes : ℕ) (b : Bank) where
     copies-is i = ap₂ (λ (n : ℕ) (y : Entry). copiesBy (asked n) (y .mask) b i) (sym (map-count count first last)) is
 
     number-is : (p i : ℕ)
-        → fromBits (signedIn (rowNumber (x .id))) (widthOf x) (bitsAt b s (x .offset) p (widthOf x) i)
+        → fromBits (signedOf x) (widthOf x) (bitsAt b s (x .offset) p (widthOf x) i)
         ≡ numberIn (mapOf count first last) b s e p i
-    unfolding signedOf
-    number-is p i = number-field m b s e p i x is (widthOf x) refl (signedIn (rowNumber (x .id))) (values-signed (x .id))
-
-    accepts-is : (v : ℤ) → allowedBy (rowNumber (x .id)) (x .codes) v ≡ accepts (entry (mapOf count first last) e) v
-    accepts-is v = values-accepts (x .id) (x .codes) v ∙ accepts-entry x v ∙ ap (λ (y : Entry). accepts y v) is
-
-    width-is : widthIn (rowNumber (x .id)) ≡ widthOf x
-    unfolding widthOf
-    width-is = row-width (x .id)
+    number-is p i = number-field m b s e p i x is (widthOf x) refl (signedOf x) refl
 
     fine-is : (p i : ℕ)
-        → (eqb (widthOf x) 8 || bitOf (listedBy (rowNumber (x .id)) (x .codes)) (bitsAt b s (x .offset) p (widthOf x) i))
+        → (eqb (widthOf x) 8 || bitOf (listedOf x) (bitsAt b s (x .offset) p (widthOf x) i))
         ≡ accepts (entry (mapOf count first last) e) (numberIn (mapOf count first last) b s e p i)
     fine-is p i =
-        sym (rw width-is at (bits-allowed (x .id) (x .codes) (bitsAt b s (x .offset) p (widthOf x) i) (rw width-is (bits-at-lt b s (x .offset) p (widthOf x) i))))
-        ∙ ap (allowedBy (rowNumber (x .id)) (x .codes)) (number-is p i)
-        ∙ accepts-is _
+        sym (bits-accepted x (bitsAt b s (x .offset) p (widthOf x) i) (bits-at-lt b s (x .offset) p (widthOf x) i))
+        ∙ ap (accepts x) (number-is p i)
+        ∙ ap (λ (y : Entry). accepts y (numberIn (mapOf count first last) b s e p i)) is
 
     bad-is : (p i : ℕ)
         → badAt (asked count) (fieldsOf (getD (rwEntries count first) e nothing)) b p i

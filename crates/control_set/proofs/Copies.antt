@@ -1,8 +1,12 @@
 -- The copy turn by turn: where its fields lie, and that each turn may read the staged set from the bank as it is.
-use mathlib.Core.Path.{_≡_, refl, ap, _∙_}
+use mathlib.Core.Path.{_≡_, refl, sym, ap, _∙_}
+use mathlib.Core.Logic.{_≢_}
 use mathlib.Core.Bool.{Bool, true, false, _&&_, cond}
 use mathlib.Core.List.{List}
-use Prim.Native.Nat.{_*_, ℕ, zero, suc, _+_, _-_, _≤_, _<_}
+use Prim.Native.Nat.{_*_, _/_, _^_, ℕ, zero, suc, _+_, _-_, _≤_, _<_}
+use native.Mathlib.Nat.{zero-mul, mod-lt, div-eq-of-lt}
+use native.Mathlib.Decide.{decLt}
+use lib.Pow.{pow-pos, pow-mono, split}
 use native.Mathlib.Numerals.{add-one}
 use native.Mathlib.Omega.{arith}
 use lib.Arith.{digits-lt}
@@ -67,6 +71,43 @@ pub loop-ext : (n : ℕ) (f h : ℕ → Bank → Bank) (b : Bank) → ((j : ℕ)
 unfolding loop
 loop-ext zero f h b q = refl
 loop-ext (suc n) f h b q = q n (loop n f b) (omega arith) ∙ ap (h n) (loop-ext n f h b (λ j b′ l. q j b′ (omega arith)))
+
+-- a loop whose last turns change nothing
+loop-tail : (n j : ℕ) (f : ℕ → Bank → Bank) (b : Bank) → j ≤ n → ((i : ℕ) (x : Bank) → j ≤ i → i < n → f i x ≡ x) → loop n f b ≡ loop j f b
+unfolding loop
+loop-tail zero j f b h s = let e : j ≡ 0 = omega arith in rw e refl
+loop-tail (suc n) j f b h s = go (decLt n j) (λ l. loop-tail n j f b l (λ i x a u. s i x a (omega arith)))
+  where
+    go : Dec (n < j) → (j ≤ n → loop n f b ≡ loop j f b) → f n (loop n f b) ≡ loop j f b
+    go (yes l) r = let e : j ≡ suc n = omega arith in rw e refl
+    go (no l) r = s n (loop n f b) (omega arith) (omega arith) ∙ r (omega arith)
+
+-- past the last chosen lane
+few-lanes : (lanes j : ℕ) → lanes / 2 ^ j ≡ 0 → lanes < 2 ^ j
+few-lanes lanes j h =
+    let e = rw (h, zero-mul (2 ^ j)) at (split lanes j) in
+    omega (arith, e, mod-lt lanes (pow-pos j))
+
+pub lanes-left : (lanes j : ℕ) → lanes < 256 → lanes / 2 ^ j ≢ 0 → j < 8
+lanes-left lanes j h ne = go (decLt j 8)
+  where
+    go : Dec (j < 8) → j < 8
+    go (yes l) = l
+    go (no l) = absurd (ne (div-eq-of-lt (omega (arith, pow-mono {i = 8} {j = j} (omega arith)))))
+
+pub copied-upto :
+    (c : Chosen) (f : Fields) (b₀ : Bank) (p j : ℕ) (b : Bank)
+    → j ≤ 8
+    → c .lanes / 2 ^ j ≡ 0
+    → loop j (λ i. copyLane c f b₀ p (suc i)) b ≡ copyPart c f b₀ p b
+unfolding copyPart copyLane
+copied-upto c f b₀ p j b h z = sym (loop-tail 8 j (λ i. copyLane c f b₀ p (suc i)) b h (λ i x a u. rw (unchosen i a) refl))
+  where
+    unchosen : (i : ℕ) → j ≤ i → chooses (c .lanes) (suc i) ≡ false
+    unchosen i a =
+        let e : suc i - 1 ≡ i = omega arith in
+        let q : c .lanes / 2 ^ i ≡ 0 = div-eq-of-lt (omega (arith, few-lanes (c .lanes) j z, pow-mono {i = j} {j = i} a)) in
+        rw (e, q) refl
 
 pub asked-kept : {c : Chosen} {b b′ : Bank} → Asked c b → Kept b b′ → Asked c b′
 asked-kept a k = record { count = a .count; staged = a .staged; size = omega (arith, a .size, k .size) }

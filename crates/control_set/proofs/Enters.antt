@@ -1,10 +1,11 @@
--- A call that names an entry: its gate, from what the entry call says, and the rules' tests of it, from the entry that is found.
+-- A call that names an entry: what `find` says of 9, 8 and 1 to 7, and the rules' tests of the call, from the entry that is found.
 use mathlib.Core.Path.{_≡_, refl, sym, ap, _∙_}
 use mathlib.Core.Bool.{Bool, true, false, _&&_, _||_, not}
 use mathlib.Core.List.{List, [], _∷_}
-use Prim.Native.Nat.{ℕ, _≤_, _<_}
+use Prim.Native.Nat.{ℕ, _^_, _≤_, _<_}
 use native.Mathlib.Omega.{arith}
-use lib.IntN.{ℤ}
+use native.Mathlib.Decide.{decLt}
+use lib.IntN.{ℤ, pos}
 use lib.ListN.{length}
 use lib.Dec.{T, ltb, eqb, ltb→lt, eqb→eq}
 use borrow.Author.Tests.{ltb-false, lt-ltb, le-ltb}
@@ -12,190 +13,188 @@ use Rattle.rules.specs.declared.Call.{Call}
 use Rattle.rules.specs.declared.Answer.the-variants.{Number as number, Refused as refused}
 use Rattle.rules.specs.declared.Refusal.{Refusal}
 use Rattle.rules.specs.declared.Refusal.the-variants.{Plain as plain}
-use Rattle.rules.specs.declared.Loaded.{Loaded}
-use Rattle.rules.specs.declared.Loaded.the-variants.{Accepted as accepted, Refused as rejected}
 use Rattle.rules.specs.Parameter.{rowOf}
-use Rattle.rules.specs.Load.{Map, sized, loadOf, mapOf}
+use Rattle.rules.specs.Load.{Map, sized, mapOf}
 use Rattle.rules.specs.Place.{entry, partsOf, widthOf, signedOf, isSet, isStaged, isRW, isLane, heldBy, hasField}
-use Rattle.rules.specs.Accept.{accepts, toBits, fromBits, weightOf}
+use Rattle.rules.specs.Accept.{accepts, toBits, weightOf}
 use Rattle.rules.specs.Layout.{bankSize}
-use Rattle.rules.specs.Refuse.{Verdict, refuses, refuseIf, firstOf, bankOrder, exists, misdirected}
+use Rattle.rules.specs.Refuse.{Verdict, passes, refuses, refuseIf, firstOf, check9, check8, check1to7, bankOrder, exists, misdirected}
 use Rattle.rules.specs.Bank.{Bank, numberIn, withNumber, bankStep}
-use Rattle.rules.specs.Beside.{entryVerdict, isWeighed, weightCall}
-use Rattle.rules.specs.Demands.{Accepted}
+use Rattle.rules.specs.Beside.{isWeighed, weightCall}
 use Rattle.rules.proofs.Tests.{and₂, is-true, not-not, or-no, from-true, and-no}
+use Rattle.rules.proofs.Lanes.{Width}
 use Rattle.rules.proofs.Good.{GoodMap, rw-held}
 use Rattle.rules.proofs.Places.{Field, field-of, active-held, read-held}
 use Rattle.rules.proofs.Walks.{map-good}
 use Rattle.rules.proofs.Steps.{judge-10, step-refused}
-use Rattle.rules.proofs.Orders.{order-refused, order-accepted, bank-order-refused, bank-order-accepted}
+use Rattle.rules.proofs.Orders.{bank-order-accepted}
 use Rattle.descriptor.specs.declared.Found.{Found}
 use Rattle.descriptor.specs.declared.Found.the-variants.{In as isIn, Refused as notFound}
-use Rattle.descriptor.specs.declared.Shape.{Shape}
-use Rattle.descriptor.specs.Find.{foundOf, shapeOf}
-use Rattle.descriptor.proofs.Finds.{found-refused, found-in}
+use Rattle.descriptor.specs.declared.Named.{Named}
+use Rattle.descriptor.specs.Find.{mostBy, acceptedBy, foundOf}
+use Rattle.descriptor.proofs.Accepts.{named-accepts}
+use Rattle.descriptor.proofs.Finds.{id-is, side-is, offset-is, parts-is, width-is, most-is, step-is, InMap, found-stops, found-9, found-8, found-in}
 use Rattle.control_set.specs.Field.{Spot, InBits, bitsAt, withBits}
-use Rattle.control_set.specs.Values.{acceptsBy}
-use Rattle.control_set.specs.Gate.{Opened, Entered, EntryGated, refusedOf}
-use Rattle.control_set.proofs.Spots.{spot-room, spot-field, number-field, with-number}
-use Rattle.control_set.proofs.Signs.{accepted-bits}
-use Rattle.control_set.proofs.Table.{accepts-entry}
+use Rattle.control_set.specs.Values.{Ranged, numberBy}
+use Rattle.control_set.specs.Gate.{Opened, refusedOf}
+use Rattle.control_set.proofs.Spots.{spot-room, spot-field, bits-at-lt, number-field, with-number}
+use Rattle.control_set.proofs.Signs.{accepted-byte}
+use Rattle.control_set.proofs.Values.{named-ranged, number-named}
 
-module _ (count : ℕ) (first last : List ℕ) (size e : ℕ) (h : sized count first last ≡ true) (l : bankSize ≤ size) where
+-- past 9, 8 and 1 to 7 with an entry of the map
+pub record Entered (count : ℕ) (rw ro : List ℕ) (size e : ℕ) (f : Named) : Type 0 where
+  pub size-is : bankSize ≤ size
+  pub named : InMap count rw ro e f
+
+-- refused, where what follows gives 10 to an entry that doesn't exist
+abbrev pub EntryGated : ℕ → List ℕ → List ℕ → ℕ → ℕ → Found → Type 0
+EntryGated count rw ro size e (isIn f) = Entered count rw ro size e f
+EntryGated count rw ro size e (notFound r) =
+    (rest : List Verdict) → (length (mapOf count rw ro .entries) ≤ e → firstOf rest ≡ refuses (plain 10)) → bankOrder count rw ro size rest ≡ refuses r
+
+-- what comes before 10, and 10 itself, in the order of any call that gives 10 to an entry that doesn't exist
+pass-on :
+    (a b c : Verdict) (t : Bool) (r : Refusal) (rest : List Verdict)
+    → firstOf (a ∷ b ∷ c ∷ refuseIf (not t) (plain 10) ∷ []) ≡ refuses r
+    → (t ≡ false → firstOf rest ≡ refuses (plain 10))
+    → firstOf (a ∷ b ∷ c ∷ rest) ≡ refuses r
+pass-on (refuses x) b c t r rest q k = q
+pass-on passes (refuses x) c t r rest q k = q
+pass-on passes passes (refuses x) t r rest q k = q
+pass-on passes passes passes true r rest q k = let o : _≡_ {A = ℕ} 0 1 = cc in absurd (omega arith)
+pass-on passes passes passes false r rest q k = k refl ∙ q
+
+module _ (count : ℕ) (first last : List ℕ) (size e : ℕ) where
   abbrev m : Map
   m = mapOf count first last
 
-  verdict-gated :
-      (r : Refusal)
-      → entryVerdict count first last e ≡ refuses r
-      → (rest : List Verdict)
-      → (length (mapOf count first last .entries) ≤ e → firstOf rest ≡ refuses (plain 10))
-      → bankOrder count first last size rest ≡ refuses r
-  unfolding entryVerdict
-  verdict-gated r v rest k = go (loadOf count first last) refl
+  verdict : Verdict
+  verdict = bankOrder count first last size (refuseIf (not (ltb e (length (m .entries)))) (plain 10) ∷ [])
+
+  pub found-gated : (f : Found) → f ≡ foundOf count first last size e → EntryGated count first last size e f
+  unfolding foundOf bankOrder verdict
+  found-gated (notFound r) q =
+      λ rest k. pass-on (check9 count first last) (check8 size) (check1to7 count first last) (ltb e (length (m .entries))) r rest
+      (found-stops verdict _ r (sym q)) (λ t. k (ltb-false _ _ t))
+  found-gated (isIn f) q = go (decLt size bankSize) (sized count first last) refl
     where
-      out : (t : Bool) → ltb e (length (m .entries)) ≡ t → firstOf (refuseIf (not t) (plain 10) ∷ []) ≡ refuses r → firstOf rest ≡ refuses r
-      out true q x = let o : _≡_ {A = ℕ} 0 1 = cc in absurd (omega arith)
-      out false q x = let z : plain 10 ≡ r = cc in rw (← z) (k (ltb-false _ _ q))
+      go : Dec (size < bankSize) → (t : Bool) → sized count first last ≡ t → Entered count first last size e f
+      go (yes l) true h = let z = found-8 count first last size e h l ∙ sym q in let o : _≡_ {A = ℕ} 0 1 = cc in absurd (omega arith)
+      go (yes l) false h = let z = found-9 count first last size e h ∙ sym q in let o : _≡_ {A = ℕ} 0 1 = cc in absurd (omega arith)
+      go (no l) t h =
+          let u : bankSize ≤ size = omega arith in
+          record { size-is = u; named = found-in count first last size e u f (sym q) }
 
-      go : (x : Loaded) → loadOf count first last ≡ x → bankOrder count first last size rest ≡ refuses r
-      go (rejected r′) q =
-          let z : refuses r′ ≡ refuses r = sym (order-refused count first last r′ q _) ∙ v in
-          let y : r′ ≡ r = cc in
-          rw (← y) (bank-order-refused count first last r′ h q size rest l)
-      go (accepted n k c t) q =
-          let ok : Accepted count first last = record { rwCount = n; roCount = k; staged = c; active = t; loads = q } in
-          bank-order-accepted count first last ok size rest l ∙ out (ltb e (length (m .entries))) refl (sym (order-accepted count first last ok _) ∙ v)
-
-  pub found-gated : (f : Found) → f ≡ foundOf count first last e → EntryGated count first last size e f
-  found-gated (isIn inRO i o c s) q =
-      let z = found-in count first last e inRO i o c s (sym q) in
-      record {
-        size-is = l;
-        ok = z .ok;
-        there = z .there;
-        side = sym (z .side);
-        id-is = z .id-is;
-        offset-is = z .offset-is;
-        codes-is = z .codes-is;
-        step-is = z .step-is;
-      }
-  found-gated (notFound r) q = verdict-gated r (found-refused count first last e r (sym q))
-
--- the rules' tests of a call on a field, in the numbers of the entry that is found and of its ID's shape
-module _ (count : ℕ) (first last : List ℕ) (b : Bank) {e : ℕ} {inRO : Bool} {id offset codes step : ℕ}
-    (t : Entered count first last (length b) e inRO id offset codes step) where
+-- the rules' tests of a call on a field, in the numbers of the entry that is found
+module _ (count : ℕ) (first last : List ℕ) (b : Bank) {e : ℕ} {f : Named} (t : Entered count first last (length b) e f) where
   abbrev n : Map
   n = mapOf count first last
 
   good : GoodMap (mapOf count first last)
-  good = map-good count first last (t .ok)
+  good = map-good count first last (t .named .ok)
 
-  pub entered-opened : Opened count first last (length b) (t .ok .rwCount) (t .ok .roCount) (t .ok .staged) (t .ok .active)
-  entered-opened = record { size-is = t .size-is; loads = t .ok .loads }
+  pub entered-opened : Opened count first last (length b) (t .named .ok .rwCount) (t .named .ok .roCount) (t .named .ok .staged) (t .named .ok .active)
+  entered-opened = record { size-is = t .size-is; loads = t .named .ok .loads }
 
-  pub value-tested : (v : ℤ) → not (accepts (entry (mapOf count first last) e) v) ≡ not (acceptsBy id codes v)
-  value-tested v = rw (← t .id-is, ← t .codes-is) (ap not (sym (accepts-entry (entry n e) v)))
+  pub ranged : Ranged f
+  ranged = rw (← t .named .is) (named-ranged (not (isRW n e)) (entry n e))
 
-  module _ {z : Shape} (q : z ≡ shapeOf id) where
-    parts-is : z .parts ≡ partsOf (entry (mapOf count first last) e)
-    unfolding partsOf
-    parts-is = rw (q, ← t .id-is) refl
+  accepts-is : (v : ℤ) → acceptedBy f v ≡ accepts (entry (mapOf count first last) e) v
+  accepts-is v = ap (λ (x : Named). acceptedBy x v) (sym (t .named .is)) ∙ named-accepts (not (isRW n e)) (entry n e) v
 
-    width-is : z .width ≡ widthOf (entry (mapOf count first last) e)
-    unfolding widthOf
-    width-is = rw (q, ← t .id-is) refl
+  pub value-tested : (v : ℤ) → not (accepts (entry (mapOf count first last) e) v) ≡ not (acceptedBy f v)
+  value-tested v = ap not (sym (accepts-is v))
 
-    has : (p i : ℕ) → hasField (mapOf count first last) e p i ≡ (ltb p (z .parts) && isLane i)
-    has p i = rw (lt-ltb e (length (n .entries)) (t .there), parts-is) refl
+  has : (p i : ℕ) → hasField (mapOf count first last) e p i ≡ (ltb p (f .parts) && isLane i)
+  has p i = rw (lt-ltb e (length (n .entries)) (t .named .there), (parts-is count first last (t .named))) refl
 
-    -- 10
-    pub write-tested : (s p i : ℕ) (v : ℤ) → exists (mapOf count first last) (Call.Write s e p i v) ≡ (isSet s && (ltb p (z .parts) && isLane i))
-    unfolding exists
-    write-tested s p i v = ap (λ y. isSet s && y) (has p i)
+  -- 10
+  pub write-tested : (s p i : ℕ) (v : ℤ) → exists (mapOf count first last) (Call.Write s e p i v) ≡ (isSet s && (ltb p (f .parts) && isLane i))
+  unfolding exists
+  write-tested s p i v = ap (λ y. isSet s && y) (has p i)
 
-    pub read-tested : (s p i : ℕ) → exists (mapOf count first last) (Call.Read s e p i) ≡ (isSet s && (ltb p (z .parts) && isLane i))
-    unfolding exists
-    read-tested s p i = ap (λ y. isSet s && y) (has p i)
+  pub read-tested : (s p i : ℕ) → exists (mapOf count first last) (Call.Read s e p i) ≡ (isSet s && (ltb p (f .parts) && isLane i))
+  unfolding exists
+  read-tested s p i = ap (λ y. isSet s && y) (has p i)
 
-    pub publish-tested : (p i : ℕ) (v : ℤ) → exists (mapOf count first last) (Call.Publish e p i v) ≡ (ltb p (z .parts) && isLane i)
-    unfolding exists
-    publish-tested p i v = has p i
+  pub publish-tested : (p i : ℕ) (v : ℤ) → exists (mapOf count first last) (Call.Publish e p i v) ≡ (ltb p (f .parts) && isLane i)
+  unfolding exists
+  publish-tested p i v = has p i
 
-    -- the field
-    field-there : (s p i : ℕ) → s < 3 → e < heldBy (mapOf count first last) s → (ltb p (z .parts) && isLane i) ≡ true → Field (mapOf count first last) s e p i
-    field-there s p i l h k = field-of n s e p i l h (from-true (has p i ∙ k))
+  -- the field
+  field-there : (s p i : ℕ) → s < 3 → e < heldBy (mapOf count first last) s → (ltb p (f .parts) && isLane i) ≡ true → Field (mapOf count first last) s e p i
+  field-there s p i l h k = field-of n s e p i l h (from-true (has p i ∙ k))
 
-    pub spot-there : {s p i : ℕ} → Field (mapOf count first last) s e p i → Spot b s offset p (z .width) i
-    spot-there {s} {p} {i} f = rw (← t .offset-is) (spot-field n b s e p i (entry n e) refl (z .width) width-is good f (t .size-is))
+  pub spot-there : {s p i : ℕ} → Field (mapOf count first last) s e p i → Spot b s (f .offset) p (f .width) i
+  spot-there {s} {p} {i} x = rw (offset-is count first last (t .named)) (spot-field n b s e p i (entry n e) refl (f .width) (width-is count first last (t .named)) good x (t .size-is))
 
-    -- its number, and the bank with a number in it
-    pub number-there :
-        (s p i : ℕ) (g : Bool)
-        → g ≡ rowOf id .signed
-        → fromBits g (z .width) (bitsAt b s offset p (z .width) i) ≡ numberIn (mapOf count first last) b s e p i
-    unfolding signedOf
-    number-there s p i g h = rw (← t .offset-is) (number-field n b s e p i (entry n e) refl (z .width) width-is g (h ∙ ap (λ j. rowOf j .signed) (sym (t .id-is))))
+  -- its number, and the bank with a number in it
+  pub number-there :
+      {s p i : ℕ}
+      → Field (mapOf count first last) s e p i
+      → numberBy (f .most) (bitsAt b s (f .offset) p (f .width) i) ≡ numberIn (mapOf count first last) b s e p i
+  number-there {s} {p} {i} x =
+      let w : Width (widthOf (entry n e)) = rw (width-is count first last (t .named)) at (spot-there x .whole) in
+      rw ((most-is count first last (t .named)), (offset-is count first last (t .named)), (width-is count first last (t .named)))
+      (number-named (entry n e) (bitsAt b s (entry n e .offset) p (widthOf (entry n e)) i) w (bits-at-lt b s (entry n e .offset) p (widthOf (entry n e)) i)
+      ∙ number-field n b s e p i (entry n e) refl (widthOf (entry n e)) refl (signedOf (entry n e)) refl)
 
-    pub stored-there :
-        (s p i : ℕ) (v : ℤ)
-        → withBits b s offset p (z .width) i (toBits (z .width) v) ≡ withNumber (mapOf count first last) b s e p i v
-    stored-there s p i v = rw (← t .offset-is) (with-number n b s e p i (entry n e) refl (z .width) width-is v)
+  pub stored-there :
+      (s p i : ℕ) (v : ℤ)
+      → withBits b s (f .offset) p (f .width) i (toBits (f .width) v) ≡ withNumber (mapOf count first last) b s e p i v
+  stored-there s p i v = rw (offset-is count first last (t .named)) (with-number n b s e p i (entry n e) refl (f .width) (width-is count first last (t .named)) v)
 
-    is-rw : inRO ≡ false → T (isRW (mapOf count first last) e)
-    is-rw h = not-not (isRW n e) (from-true (ap not (sym (t .side) ∙ h)))
+  is-rw : f .ro ≡ false → T (isRW (mapOf count first last) e)
+  is-rw h = not-not (isRW n e) (from-true (ap not (sym (side-is count first last (t .named)) ∙ h)))
 
-    -- past 10 and 11
-    pub write-there :
-        (s p i : ℕ)
-        → (isSet s && (ltb p (z .parts) && isLane i)) ≡ true
-        → (eqb s 2 || inRO) ≡ false
-        → Field (mapOf count first last) s e p i
-    write-there s p i h k =
-        let (a, c) = and₂ (isSet s) (ltb p (z .parts) && isLane i) (from-true h) in
-        field-there s p i (ltb→lt s 3 a) (rw-held n good s e (ltb→lt _ _ (is-rw (or-no (eqb s 2) inRO k .1)))) (is-true _ c)
+  -- past 10 and 11
+  pub write-there :
+      (s p i : ℕ)
+      → (isSet s && (ltb p (f .parts) && isLane i)) ≡ true
+      → (eqb s 2 || f .ro) ≡ false
+      → Field (mapOf count first last) s e p i
+  write-there s p i h k =
+      let (a, c) = and₂ (isSet s) (ltb p (f .parts) && isLane i) (from-true h) in
+      field-there s p i (ltb→lt s 3 a) (rw-held n good s e (ltb→lt _ _ (is-rw (or-no (eqb s 2) (f .ro) k .1)))) (is-true _ c)
 
-    pub read-there :
-        (s p i : ℕ)
-        → (isSet s && (ltb p (z .parts) && isLane i)) ≡ true
-        → (isStaged s && inRO) ≡ false
-        → Field (mapOf count first last) s e p i
-    read-there s p i h k =
-        let (a, c) = and₂ (isSet s) (ltb p (z .parts) && isLane i) (from-true h) in
-        let l : (isStaged s && not (isRW n e)) ≡ false = rw (← t .side) k in
-        field-there s p i (ltb→lt s 3 a) (read-held n good s e p i a (from-true (has p i ∙ is-true _ c)) (from-true (ap not l))) (is-true _ c)
+  pub read-there :
+      (s p i : ℕ)
+      → (isSet s && (ltb p (f .parts) && isLane i)) ≡ true
+      → (isStaged s && f .ro) ≡ false
+      → Field (mapOf count first last) s e p i
+  read-there s p i h k =
+      let (a, c) = and₂ (isSet s) (ltb p (f .parts) && isLane i) (from-true h) in
+      let l : (isStaged s && not (isRW n e)) ≡ false = rw (← (side-is count first last (t .named))) k in
+      field-there s p i (ltb→lt s 3 a) (read-held n good s e p i a (from-true (has p i ∙ is-true _ c)) (from-true (ap not l))) (is-true _ c)
 
-    pub publish-there : (p i : ℕ) → (ltb p (z .parts) && isLane i) ≡ true → Field (mapOf count first last) 2 e p i
-    publish-there p i h = field-there 2 p i (omega arith) (active-held n e p i (from-true (has p i ∙ h))) h
+  pub publish-there : (p i : ℕ) → (ltb p (f .parts) && isLane i) ≡ true → Field (mapOf count first last) 2 e p i
+  publish-there p i h = field-there 2 p i (omega arith) (active-held n e p i (from-true (has p i ∙ h))) h
 
-    -- an accepted value fits the field's bits
-    pub value-bits :
-        {s p i : ℕ}
-        → Field (mapOf count first last) s e p i
-        → (v : ℤ)
-        → acceptsBy id codes v ≡ true
-        → (0 < z .width) × (z .width ≤ 8) × InBits (z .width) v
-    value-bits f v h =
-        let r = spot-room (spot-there f) in (
-          r .some,
-          omega (arith, r .room),
-          rw width-is (accepted-bits (entry n e) v (rw (← width-is) (r .some)) (from-true (sym (accepts-entry (entry n e) v) ∙ rw (t .id-is, t .codes-is) h))),
-        )
+  -- an accepted value has the field's bits
+  pub value-bits :
+      {s p i : ℕ}
+      → Field (mapOf count first last) s e p i
+      → (v : ℤ)
+      → acceptedBy f v ≡ true
+      → InBits 8 v × (toBits 8 v ≡ toBits (f .width) v) × (toBits (f .width) v < 2 ^ f .width)
+  value-bits x v h =
+      let r = spot-room (spot-there x) in
+      rw (width-is count first last (t .named))
+      (accepted-byte (entry n e) v (rw (width-is count first last (t .named)) at (spot-there x .whole)) (rw (width-is count first last (t .named)) at (r .some)) (from-true (sym (accepts-is v) ∙ h)))
 
 -- 11
-module _ (count : ℕ) (first last : List ℕ) {size e : ℕ} {inRO : Bool} {id offset codes step : ℕ}
-    (t : Entered count first last size e inRO id offset codes step) where
-  pub write-directed : (s p i : ℕ) (v : ℤ) → misdirected (mapOf count first last) (Call.Write s e p i v) ≡ (eqb s 2 || inRO)
+module _ (count : ℕ) (first last : List ℕ) {size e : ℕ} {f : Named} (t : Entered count first last size e f) where
+  pub write-directed : (s p i : ℕ) (v : ℤ) → misdirected (mapOf count first last) (Call.Write s e p i v) ≡ (eqb s 2 || f .ro)
   unfolding misdirected
-  write-directed s p i v = rw (t .side) refl
+  write-directed s p i v = rw (side-is count first last (t .named)) refl
 
-  pub read-directed : (s p i : ℕ) → misdirected (mapOf count first last) (Call.Read s e p i) ≡ (isStaged s && inRO)
+  pub read-directed : (s p i : ℕ) → misdirected (mapOf count first last) (Call.Read s e p i) ≡ (isStaged s && f .ro)
   unfolding misdirected
-  read-directed s p i = rw (t .side) refl
+  read-directed s p i = rw (side-is count first last (t .named)) refl
 
-  pub publish-directed : (p i : ℕ) (v : ℤ) → misdirected (mapOf count first last) (Call.Publish e p i v) ≡ not inRO
+  pub publish-directed : (p i : ℕ) (v : ℤ) → misdirected (mapOf count first last) (Call.Publish e p i v) ≡ not (f .ro)
   unfolding misdirected
-  publish-directed p i v = rw (t .side) (twice (isRW (mapOf count first last) e))
+  publish-directed p i v = rw (side-is count first last (t .named)) (twice (isRW (mapOf count first last) e))
     where
       twice : (a : Bool) → a ≡ not (not a)
       twice true = refl
@@ -239,38 +238,42 @@ module _ (count : ℕ) (first last : List ℕ) (b : Bank) (e i : ℕ) where
       let k : EntryGated count first last (length b) e (notFound r) = rw q at h in
       rw (q, k (refuseIf (not (isWeighed (mapOf count first last) e i)) (plain 10) ∷ []) λ l. rw (le-ltb e (length (mapOf count first last .entries)) l) refl) refl
 
-  module _ {inRO : Bool} {id offset codes step : ℕ} (t : Entered count first last (length b) e inRO id offset codes step) where
+  module _ {f : Named} (t : Entered count first last (length b) e f) where
     order : bankOrder count first last (length b) (refuseIf (not (isWeighed (mapOf count first last) e i)) (plain 10) ∷ [])
-        ≡ firstOf (refuseIf (not (eqb id 0x12 && isLane i)) (plain 10) ∷ [])
+        ≡ firstOf (refuseIf (not (eqb (f .id) 0x12 && isLane i)) (plain 10) ∷ [])
     order =
-        bank-order-accepted count first last (t .ok) (length b) _ (t .size-is)
-        ∙ rw (lt-ltb e (length (mapOf count first last .entries)) (t .there), t .id-is) refl
+        bank-order-accepted count first last (t .named .ok) (length b) _ (t .size-is)
+        ∙ rw (lt-ltb e (length (mapOf count first last .entries)) (t .named .there), id-is count first last (t .named)) refl
 
-    pub weight-10 : (eqb id 0x12 && isLane i) ≡ false → refused (plain 10) ≡ weightCall count first last b e i
+    pub weight-10 : (eqb (f .id) 0x12 && isLane i) ≡ false → refused (plain 10) ≡ weightCall count first last b e i
     unfolding weightCall
     weight-10 h = rw (order, h) refl
 
-    module _ (h : (eqb id 0x12 && isLane i) ≡ true) where
-      is-12 : id ≡ 0x12
-      is-12 = eqb→eq id 0x12 (and₂ (eqb id 0x12) (isLane i) (from-true h) .0)
+    module _ (h : (eqb (f .id) 0x12 && isLane i) ≡ true) where
+      is-12 : entry (mapOf count first last) e .id ≡ 0x12
+      is-12 = sym (id-is count first last (t .named)) ∙ eqb→eq (f .id) 0x12 (and₂ (eqb (f .id) 0x12) (isLane i) (from-true h) .0)
 
-      shape : Shape
-      shape = record { parts = 1; width = 8 }
+      parts-12 : f .parts ≡ 1
+      unfolding rowOf partsOf
+      parts-12 = parts-is count first last (t .named) ∙ ap (λ (j : ℕ). rowOf j .parts) is-12
 
-      shape-is : shape ≡ shapeOf id
-      unfolding rowOf shape
-      shape-is = rw is-12 refl
+      width-12 : f .width ≡ 8
+      unfolding rowOf widthOf
+      width-12 = width-is count first last (t .named) ∙ ap (λ (j : ℕ). rowOf j .width) is-12
+
+      most-12 : f .most ≡ pos 127
+      unfolding rowOf widthOf signedOf
+      most-12 = most-is count first last (t .named) ∙ ap (λ (j : ℕ). mostBy (rowOf j .width) (rowOf j .signed)) is-12
 
       field : Field (mapOf count first last) 2 e 0 i
-      unfolding shape
-      field = publish-there count first last b t shape-is 0 i (is-true _ (and₂ (eqb id 0x12) (isLane i) (from-true h) .1))
+      field = publish-there count first last b t 0 i (rw parts-12 (is-true _ (and₂ (eqb (f .id) 0x12) (isLane i) (from-true h) .1)))
 
-      pub weight-spot : Spot b 2 offset 0 8 i
-      unfolding shape
-      weight-spot = spot-there count first last b t shape-is field
+      pub weight-spot : Spot b 2 (f .offset) 0 8 i
+      weight-spot = rw width-12 at (spot-there count first last b t field)
 
-      pub weight-is : number (weightOf step (fromBits true 8 (bitsAt b 2 offset 0 8 i))) ≡ weightCall count first last b e i
-      unfolding weightCall shape rowOf
+      pub weight-is : number (weightOf (f .step) (numberBy (pos 127) (bitsAt b 2 (f .offset) 0 8 i))) ≡ weightCall count first last b e i
+      unfolding weightCall
       weight-is =
-          rw (order, h, ← t .step-is)
-          (ap (λ v. number (weightOf (entry (mapOf count first last) e .step) v)) (number-there count first last b t shape-is 2 0 i true (rw is-12 refl)))
+          let z : numberBy (pos 127) (bitsAt b 2 (f .offset) 0 8 i) ≡ numberIn (mapOf count first last) b 2 e 0 i
+          = rw (most-12, width-12) at (number-there count first last b t field) in
+          rw (order, h, step-is count first last (t .named)) (ap (λ v. number (weightOf (entry (mapOf count first last) e .step) v)) z)

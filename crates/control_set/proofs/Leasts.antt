@@ -12,7 +12,7 @@ use Rattle.rules.specs.declared.Refusal.the-variants.{AtLane as atLane}
 use Rattle.rules.specs.Descriptor.{isApp}
 use Rattle.rules.specs.Numbers.{any, lowest}
 use Rattle.rules.specs.Refuse.{passes, refuses, atLowest}
-use Rattle.rules.proofs.Tests.{and₂, from-true}
+use Rattle.rules.proofs.Tests.{and₂, from-true, or-yes}
 use Rattle.control_set.specs.Plan.{Least, Clear}
 
 pub app-range : (count a : ℕ) → isApp count a ≡ true → (1 ≤ a) × (a ≤ count)
@@ -59,13 +59,9 @@ any-more top k k′ n f a b =
       hit = λ u. go (ℕ-discrete k′ k) u;
     })
   where
-    yes-or : (x : Bool) → (x || true) ≡ true
-    yes-or true = refl
-    yes-or false = refl
-
     go : Dec (k′ ≡ k) → k′ < top → (any n (λ x. f x k′) || f n k′) ≡ true
     go (yes e) u = rw e (rw (a .hit (omega arith)) refl)
-    go (no ne) u = rw (b .hit (omega (arith, b .le))) (yes-or (any n λ x. f x k′))
+    go (no ne) u = rw (b .hit (omega (arith, b .le))) (or-yes (any n λ x. f x k′))
 
 -- what 13 and 14 say of it
 lowest-clear : (n i : ℕ) (f : ℕ → Bool) → ((j : ℕ) → i ≤ j → j < i + n → f j ≡ false) → lowest n i f ≡ 0

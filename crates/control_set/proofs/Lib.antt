@@ -1,10 +1,8 @@
 -- Laws that the functions' proofs cite.
 pub mod Masks
-pub mod Bits
 pub mod Spots
 pub mod Signs
 pub mod Values
-pub mod Table
 pub mod Ways
 pub mod Enters
 pub mod ByteWays

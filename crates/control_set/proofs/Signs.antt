@@ -1,36 +1,41 @@
--- Numbers and their bits as the code computes them: 2 ^ w more or less; and how far from 0 a weight can be.
-use mathlib.Core.Path.{_≡_, refl, sym}
-use mathlib.Core.Bool.{Bool, true, false, _&&_, cond}
-use Prim.Native.Nat.{ℕ, zero, suc, _+_, _-_, _*_, _/_, _^_, _≤_, _<_}
-use native.Mathlib.Nat.{mul-le-mul}
+-- Numbers and their bits as the code computes them, and how far from 0 a weight can be.
+use mathlib.Core.Path.{_≡_, refl}
+use mathlib.Core.Bool.{Bool, true, false}
+use Prim.Native.Nat.{ℕ, zero, suc, _+_, _-_, _*_, _^_, _≤_, _<_}
+use native.Mathlib.Nat.{zero-mul, suc-mul, mul-le-mul}
 use native.Mathlib.Omega.{arith}
-use borrow.Author.Tests.{lt-ltb, le-ltb, ltb-true, leb-true, leb-false}
-use lib.Dec.{T, ltb, leb, ltb→lt}
+use borrow.Author.Tests.{eq-eqb, lt-ltb, le-ltb, ltb-true}
+use lib.Dec.{T, eqb, eqb→eq, ltb→lt}
 use lib.IntN.{ℤ, pos, negsuc, negℤ, _+ℤ_, _-ℤ_, _*ℤ_}
-use lib.Pow.{pow-pos, pow-mono}
+use lib.Pow.{pow-mono}
 use lib.Signed.{mag, ltZ}
 use mir.Syntax.{w64}
 use mir.Val.{SFits}
 use Rattle.rules.specs.declared.Entry.{Entry}
+use Rattle.rules.specs.Parameter.{rowOf}
 use Rattle.rules.specs.Place.{widthOf, signedOf}
 use Rattle.rules.specs.Accept.{accepts, toBits, fromBits, thousandths}
-use Rattle.rules.proofs.Codes.{fits, from-fits}
+use Rattle.rules.proofs.Codes.{half, fits, from-fits}
+use Rattle.rules.proofs.Lanes.{Width}
 use Rattle.rules.proofs.Rows.{accepts-fits}
+use Rattle.rules.proofs.Tests.{from-true}
+use Rattle.descriptor.proofs.Accepts.{few-unsigned}
 use Rattle.control_set.specs.Field.{InBits}
-
--- 2 ^ w is twice 2 ^ (w - 1)
-half : (w : ℕ) → 0 < w → 2 ^ w ≡ 2 * 2 ^ (w - 1)
-half zero h = absurd (omega arith)
-half (suc w) h = let e : suc w - 1 ≡ w = omega arith in rw e (omega arith)
-
-pub half-ones : (w : ℕ) → 0 < w → (2 ^ w - 1) / 2 + 1 ≡ 2 ^ (w - 1)
-half-ones w h = omega (arith, half w h, pow-pos (w - 1))
-
-pub span-le : (w : ℕ) → w ≤ 8 → 2 ^ w ≤ 256
-span-le w h = pow-mono h
 
 pub small-fits : (n : ℕ) → n < 512 → SFits w64 (pos n)
 small-fits n h = record { sfits = omega arith }
+
+-- a field that is not of 8 bits has at most 4
+pub few-bits : (w : ℕ) → Width w → eqb w 8 ≡ false → w ≤ 4
+few-bits w h ne = go (h .lanes) (h .fills)
+  where
+    other : w ≡ 8 → _≡_ {A = ℕ} 0 1
+    other e = let z : eqb w 8 ≡ true = eq-eqb w 8 e in cc
+
+    go : (n : ℕ) → n * w ≡ 8 → w ≤ 4
+    go zero q = absurd (omega (arith, zero-mul w))
+    go (suc zero) q = absurd (omega (arith, other (omega arith)))
+    go (suc (suc n)) q = omega (arith, suc-mul (suc n) w, suc-mul n w)
 
 -- into bits
 pub bits-lt : (w : ℕ) (z : ℤ) → InBits w z → toBits w z < 2 ^ w
@@ -55,35 +60,39 @@ fits-bits false w (negsuc n) l h = absurd h
 fits-bits true w (pos n) l h = omega (arith, half w l, ltb→lt n (2 ^ (w - 1)) h)
 fits-bits true w (negsuc n) l h = omega (arith, half w l, ltb→lt n (2 ^ (w - 1)) h)
 
-pub accepted-bits : (e : Entry) (v : ℤ) → 0 < widthOf e → T (accepts e v) → InBits (widthOf e) v
-accepted-bits e v l h = fits-bits (signedOf e) (widthOf e) v l (accepts-fits e v h)
+-- an accepted value has the bits of a byte: only a field of 8 bits accepts a negative one
+pub accepted-byte :
+    (e : Entry) (v : ℤ)
+    → Width (widthOf e)
+    → 0 < widthOf e
+    → T (accepts e v)
+    → InBits 8 v × (toBits 8 v ≡ toBits (widthOf e) v) × (toBits (widthOf e) v < 2 ^ widthOf e)
+unfolding widthOf signedOf fits toBits
+accepted-byte e v w l h = go (eqb (rowOf (e .id) .width) 8) refl
+  where
+    fit : InBits (rowOf (e .id) .width) v
+    fit = fits-bits (rowOf (e .id) .signed) (rowOf (e .id) .width) v l (accepts-fits e v h)
+
+    low : (v : ℤ) → T (fits false (rowOf (e .id) .width) v) → rowOf (e .id) .width ≤ 4 → InBits 8 v × (toBits 8 v ≡ toBits (rowOf (e .id) .width) v)
+    low (pos n) q u = (omega (arith, ltb→lt n (2 ^ rowOf (e .id) .width) q, pow-mono u), refl)
+    low (negsuc n) q u = absurd q
+
+    go : (t : Bool) → eqb (rowOf (e .id) .width) 8 ≡ t
+        → InBits 8 v × (toBits 8 v ≡ toBits (rowOf (e .id) .width) v) × (toBits (rowOf (e .id) .width) v < 2 ^ rowOf (e .id) .width)
+    go true q =
+        let k : rowOf (e .id) .width ≡ 8 = eqb→eq _ _ (from-true q) in
+        rw k (rw k at fit, refl, bits-lt 8 v (rw k at fit))
+    go false q =
+        let u : rowOf (e .id) .width ≤ 4 = few-bits _ w q in
+        let x = low v (rw (few-unsigned (e .id) q) at (accepts-fits e v h)) u in
+        (x .0, x .1, bits-lt (rowOf (e .id) .width) v fit)
 
 pub number-bits : (g : Bool) (w n : ℕ) → 0 < w → n < 2 ^ w → InBits w (fromBits g w n)
 number-bits g w n l h = fits-bits g w (fromBits g w n) l (from-fits w l g n h)
 
--- out of bits, by the code's test
-pub number-low : (g : Bool) (w n : ℕ) → (g && leb (2 ^ (w - 1)) n) ≡ false → fromBits g w n ≡ pos n
-unfolding fromBits
-number-low false w n t = refl
-number-low true w n t = rw (lt-ltb n (2 ^ (w - 1)) (leb-false (2 ^ (w - 1)) n t))
-
-pub number-high : (g : Bool) (w n : ℕ) → n < 2 ^ w → (g && leb (2 ^ (w - 1)) n) ≡ true → fromBits g w n ≡ pos n -ℤ pos (2 ^ w)
-unfolding fromBits
-number-high false w n h t = let o : _≡_ {A = ℕ} 0 1 = cc in absurd (omega arith)
-number-high true w n h t = rw (le-ltb n (2 ^ (w - 1)) (leb-true (2 ^ (w - 1)) n t)) (sym (below n (2 ^ w) h))
-  where
-    below : (n k : ℕ) → n < k → pos n -ℤ pos k ≡ negsuc (k - suc n)
-    below n zero h = absurd (omega arith)
-    below n (suc k) h = rw (lt-ltb n (suc k) h)
-
-pub number-fits : (g : Bool) (w n : ℕ) → w ≤ 8 → n < 2 ^ w → SFits w64 (fromBits g w n)
-unfolding fromBits
-number-fits false w n u h = record { sfits = omega (arith, span-le w u) }
-number-fits true w n u h = go (ltb n (2 ^ (w - 1)))
-  where
-    go : (t : Bool) → SFits w64 (cond t (pos n) (negsuc (2 ^ w - suc n)))
-    go true = record { sfits = omega (arith, span-le w u) }
-    go false = record { sfits = omega (arith, span-le w u) }
+-- out of a byte's bits
+pub less-fits : (n : ℕ) → n < 256 → SFits w64 (pos n -ℤ pos 256)
+less-fits n h = rw (lt-ltb n 256 h) (record { sfits = omega arith })
 
 -- a weight: a byte's number times 40 at most
 mag-neg : (m : ℕ) → mag (negℤ (pos m)) ≤ m

@@ -1,15 +1,15 @@
 -- The AppSels of the chosen lanes as one mask: with none of them in an entry's mask none of its lanes is copied, with all of them
 -- every chosen one.
 use mathlib.Core.Path.{_≡_, refl, sym, _∙_}
-use mathlib.Core.Logic.{_⊎_, inl, inr, _≢_}
+use mathlib.Core.Logic.{_⊎_, inl, inr}
 use mathlib.Core.Bool.{Bool, true, false, _&&_, _||_, not, cond}
 use Prim.Native.Nat.{ℕ, zero, suc, _+_, _-_, _*_, _/_, _%_, _^_, _≤_, _<_}
-use native.Mathlib.Nat.{zero-mul, suc-mul, div-eq-of-lt}
+use native.Mathlib.Nat.{div-eq-of-lt}
 use native.Mathlib.Omega.{arith}
 use native.Mathlib.Decide.{ℕ-discrete}
-use lib.Pow.{pow-pos, shl-exact, shl-shr}
+use lib.Pow.{pow-pos, ones-split, ones-lt, high, shl-exact, shl-shr}
 use lib.Bits.{bitAnd, bitOr}
-use borrow.Author.Tests.{eq-eqb}
+use borrow.Author.Tests.{not-false}
 use lib.Dec.{T, eqb, eqb→eq}
 use Rattle.rules.specs.Numbers.{bitOf, any}
 use Rattle.rules.specs.Descriptor.{isApp}
@@ -17,20 +17,19 @@ use Rattle.rules.specs.Layout.{appSelAt}
 use Rattle.rules.specs.Refuse.{chooses}
 use Rattle.rules.specs.Bank.{Bank, appSelIn, loop}
 use Rattle.rules.proofs.Lanes.{Width}
-use Rattle.rules.proofs.Tests.{and₂, and₃, from-true, is-true, both-true, or-cases, or-no}
+use Rattle.rules.proofs.Tests.{and₂, and₃, from-true, is-true, both-true, or-cases, or-yes, or-no, and-no}
 use Rattle.control_set.specs.declared.plan.Chosen.{Chosen}
 use Rattle.control_set.specs.declared.plan.Fields.{Fields}
-use Rattle.control_set.specs.Plan.{Asked, Wants, Clear, Least, joinedBy, copiesBy, lacksBy, badAt, badIn, copyLane, copyPart, copyEntry}
+use Rattle.control_set.specs.Field.{bitsAt}
+use Rattle.control_set.specs.Plan.{Asked, Spread, Wants, Clear, Least, joinedBy, copiesBy, lacksBy, badAt, badIn, copyLane, copyPart, copyEntry}
 use Rattle.control_set.proofs.Copies.{Kept}
-use Rattle.control_set.proofs.Bits.{and-bit, or-bit}
+use Rattle.descriptor.proofs.Bits.{and-bit, or-bit}
+use Rattle.control_set.proofs.Signs.{few-bits}
+use Rattle.control_set.proofs.Spots.{bits-at-lt}
 use Rattle.control_set.proofs.Leasts.{app-range, least-top}
 
 own-bit : (k : ℕ) → k < 63 → bitOf (1 * 2 ^ k % 2 ^ 64) k ≡ true
 own-bit k h = rw (shl-exact {a = 1} 1 k 64 (omega arith) (omega arith), shl-shr 1 k) refl
-
-or-yes : (t : Bool) → (t || true) ≡ true
-or-yes true = refl
-or-yes false = refl
 
 module _ {c : Chosen} {b : Bank} (a : Asked c b) where
   abbrev app : ℕ → ℕ
@@ -72,7 +71,7 @@ module _ {c : Chosen} {b : Bank} (a : Asked c b) where
     pub all-copied : bitAnd mask apps ≡ apps → c .lanes ≡ 255 → Clear 9 (lacksBy c b) → (i : ℕ) → 1 ≤ i → i ≤ 8 → copiesBy c mask b i ≡ true
     all-copied z e clear i l u =
         let x : chooses (c .lanes) i ≡ true = rw e (ones (i - 1) (omega arith)) in
-        let y : isApp (c .count) (app i) ≡ true = has (isApp (c .count) (app i)) (rw x at (clear i l (omega arith))) in
+        let y : isApp (c .count) (app i) ≡ true = not-false (isApp (c .count) (app i)) (rw x at (clear i l (omega arith))) in
         let p : bitOf apps (app i - 1) ≡ true = w i l (omega arith) (rw (x, y) refl) in
         let r : (bitOf mask (app i - 1) && bitOf apps (app i - 1)) ≡ true = sym (and-bit mask apps (app i - 1)) ∙ rw z p in
         rw (x, y) (is-true _ (and₂ (bitOf mask (app i - 1)) (bitOf apps (app i - 1)) (from-true r) .0))
@@ -87,10 +86,6 @@ module _ {c : Chosen} {b : Bank} (a : Asked c b) where
         ones (suc (suc (suc (suc (suc (suc zero)))))) h = refl
         ones (suc (suc (suc (suc (suc (suc (suc zero))))))) h = refl
         ones (suc (suc (suc (suc (suc (suc (suc (suc j)))))))) h = absurd (omega arith)
-
-        has : (t : Bool) → not t ≡ false → t ≡ true
-        has true h = refl
-        has false h = let o : _≡_ {A = ℕ} 0 1 = cc in absurd (omega arith)
 
 -- the same on a bank with the same AppSels
 module _ (c : Chosen) {b b′ : Bank} (k : Kept b b′) where
@@ -109,6 +104,11 @@ unfolding any
 any-none-of zero f h = refl
 any-none-of (suc n) f h = rw (any-none-of n f h, h n) refl
 
+any-empty : (n : ℕ) (f : ℕ → Bool) → n ≡ 0 → any n f ≡ false
+unfolding any
+any-empty zero f h = refl
+any-empty (suc n) f h = absurd (omega arith)
+
 loop-still : (n : ℕ) (f : ℕ → Bank → Bank) (b : Bank) → ((j : ℕ) (x : Bank) → j < n → f j x ≡ x) → loop n f b ≡ b
 unfolding loop
 loop-still zero f b h = refl
@@ -123,23 +123,38 @@ module _ (c : Chosen) (f : Fields) (b : Bank) (none : (i : ℕ) → 1 ≤ i → 
   unfolding copyEntry copyPart copyLane
   none-copied-entry x = loop-still (f .parts) _ x (λ p y hp. loop-still 8 _ y (λ j z hj. rw (none (suc j) (omega arith) (omega arith)) refl))
 
--- a field that is not of 8 bits has at most 4
-few-bits : (w : ℕ) → Width w → w ≢ 8 → w ≤ 4
-few-bits w h ne = go (h .lanes) (h .fills)
-  where
-    go : (n : ℕ) → n * w ≡ 8 → w ≤ 4
-    go zero q = absurd (omega (arith, zero-mul w))
-    go (suc zero) q = absurd (ne (omega arith))
-    go (suc (suc n)) q = omega (arith, suc-mul (suc n) w, suc-mul n w)
-
 -- a field of 8 bits holds no other number
 byte-fine : (c : Chosen) (f : Fields) (b : Bank) (top : ℕ) → f .width ≡ 8 → 1 ≤ top → Least top top (badIn c f b)
 unfolding badIn badAt
 byte-fine c f b top e l = least-top top _ l (λ i a h. any-none-of (f .parts) _ (λ p. rw e (and-no (copiesBy c (f .mask) b i))))
+
+-- every code is a bit of the mask of all
+every-bit : (m n : ℕ) → n < m → bitOf (2 ^ m - 1) n ≡ true
+every-bit m n h = go (m - n) (omega arith) (omega arith)
   where
-    and-no : (t : Bool) → (t && false) ≡ false
-    and-no true = refl
-    and-no false = refl
+    odd : (j : ℕ) → 0 < j → eqb ((2 ^ j - 1) % 2) 1 ≡ true
+    odd zero l = absurd (omega arith)
+    odd (suc j) l = let z : (2 ^ suc j - 1) % 2 ≡ 1 = omega (arith, pow-pos j) in rw z refl
+
+    go : (j : ℕ) → j + n ≡ m → 0 < j → bitOf (2 ^ m - 1) n ≡ true
+    go j e l = rw (← e, ones-split j n, high (2 ^ j - 1) n (ones-lt n)) (odd j l)
+
+-- a field that accepts every code holds no other
+pub codes-fine :
+    (c : Chosen) (f : Fields) (b : Bank) (top : ℕ)
+    → f .listed ≡ 2 ^ (2 ^ f .width) - 1
+    → 1 ≤ top
+    → Least top top (badIn c f b)
+unfolding badIn badAt
+codes-fine c f b top e l =
+    least-top top _ l
+    (λ i a h. any-none-of (f .parts) _ (λ p.
+    rw (e, every-bit (2 ^ f .width) (bitsAt b (c .set) (f .offset) p (f .width) i) (bits-at-lt b (c .set) (f .offset) p (f .width) i)) (fine (copiesBy c (f .mask) b i) (eqb (f .width) 8))))
+  where
+    fine : (t w : Bool) → (t && not (w || true)) ≡ false
+    fine true true = refl
+    fine true false = refl
+    fine false w = refl
 
 -- an entry that is passed over, and one that is not
 pub passed-over :
@@ -148,13 +163,26 @@ pub passed-over :
     → Wants c b 9 apps
     → 1 ≤ top
     → top ≤ 9
-    → (eqb (bitAnd (f .mask) apps) 0 || eqb (f .width) 8) ≡ true
+    → (eqb (f .parts) 0 || (eqb (bitAnd (f .mask) apps) 0 || eqb (f .width) 8)) ≡ true
     → Least top top (badIn c f b)
-passed-over {c} {b} f apps top a w l u h = go (or-cases (eqb (bitAnd (f .mask) apps) 0) (eqb (f .width) 8) (from-true h))
+unfolding badIn
+passed-over {c} {b} f apps top a w l u h = first (or-cases (eqb (f .parts) 0) _ (from-true h))
   where
-    go : T (eqb (bitAnd (f .mask) apps) 0) ⊎ T (eqb (f .width) 8) → Least top top (badIn c f b)
-    go (inl z) = none-bad c f b (none-copied a apps w (f .mask) (eqb→eq _ 0 z)) top l u
-    go (inr z) = byte-fine c f b top (eqb→eq _ 8 z) l
+    next : T (eqb (bitAnd (f .mask) apps) 0) ⊎ T (eqb (f .width) 8) → Least top top (badIn c f b)
+    next (inl z) = none-bad c f b (none-copied a apps w (f .mask) (eqb→eq _ 0 z)) top l u
+    next (inr z) = byte-fine c f b top (eqb→eq _ 8 z) l
 
-pub looked-at : (w : ℕ) (t : Bool) → Width w → (t || eqb w 8) ≡ false → w ≤ 4
-looked-at w t h q = few-bits w h (λ e. let x = or-no t (eqb w 8) q .1 in let y : eqb w 8 ≡ true = eq-eqb w 8 e in let o : _≡_ {A = ℕ} 0 1 = cc in absurd (omega arith))
+    first : T (eqb (f .parts) 0) ⊎ T (eqb (bitAnd (f .mask) apps) 0 || eqb (f .width) 8) → Least top top (badIn c f b)
+    first (inl z) = least-top top _ l (λ i _ _. any-empty (f .parts) _ (eqb→eq (f .parts) 0 z))
+    first (inr z) = next (or-cases (eqb (bitAnd (f .mask) apps) 0) (eqb (f .width) 8) z)
+
+pub looked-at : (f : Fields) (apps : ℕ) → Spread f → (eqb (f .parts) 0 || (eqb (bitAnd (f .mask) apps) 0 || eqb (f .width) 8)) ≡ false → Width (f .width) × (f .width ≤ 4)
+looked-at f apps s q =
+    let (x, y) = or-no (eqb (f .parts) 0) _ q in
+    let z = or-no (eqb (bitAnd (f .mask) apps) 0) (eqb (f .width) 8) y .1 in
+    let w : Width (f .width) = s .whole (some (f .parts) x) in
+    (w, few-bits (f .width) w z)
+  where
+    some : (n : ℕ) → eqb n 0 ≡ false → 0 < n
+    some zero h = let o : _≡_ {A = ℕ} 0 1 = cc in absurd (omega arith)
+    some (suc n) h = omega arith

@@ -1,16 +1,15 @@
 -- The checks 9, 8 and 1 to 7 of a call on a bank of a size: refused whatever follows, or past them with the load's numbers.
 use mathlib.Core.Path.{_≡_}
-use mathlib.Core.Bool.{Bool, false, _&&_, not, cond}
+use mathlib.Core.Bool.{Bool, false, _&&_, cond}
 use mathlib.Core.List.{List}
 use Prim.Native.Nat.{ℕ, _%_, _≤_, _<_}
-use lib.ListN.{length}
 use lib.Dec.{ltb}
 use Rattle.rules.specs.declared.Loaded.the-variants.{Accepted as accepted}
 use Rattle.rules.specs.declared.Answer.{Answer}
 use Rattle.rules.specs.declared.Answer.the-variants.{Yes as saysYes, Refused as refused}
 use Rattle.rules.specs.declared.Refusal.the-variants.{Plain as plain}
 use Rattle.rules.specs.Load.{loadOf, mapOf}
-use Rattle.rules.specs.Place.{entry, isSet, isRW, lengthOf}
+use Rattle.rules.specs.Place.{isSet, lengthOf}
 use Rattle.rules.specs.Layout.{bankSize}
 use Rattle.rules.specs.Refuse.{Verdict, refuses, firstOf, bankOrder}
 use Rattle.rules.specs.Bank.{fieldBits}
@@ -31,26 +30,9 @@ abbrev pub Gated : ℕ → List ℕ → List ℕ → ℕ → Gate → Type 0
 Gated count rw ro size (opens n k c t) = Opened count rw ro size n k c t
 Gated count rw ro size (shuts r) = (rest : List Verdict) → bankOrder count rw ro size rest ≡ refuses r
 
--- past the gate with an entry of the map, and whether it stands in the RO string
-pub record Entered (count : ℕ) (rw ro : List ℕ) (size e : ℕ) (inRO : Bool) (id offset codes step : ℕ) : Type 0 where
-  pub size-is : bankSize ≤ size
-  pub ok : Accepted count rw ro
-  pub there : e < length (mapOf count rw ro .entries)
-  pub side : inRO ≡ not (isRW (mapOf count rw ro) e)
-  pub id-is : entry (mapOf count rw ro) e .id ≡ id
-  pub offset-is : entry (mapOf count rw ro) e .offset ≡ offset
-  pub codes-is : entry (mapOf count rw ro) e .codes ≡ codes
-  pub step-is : entry (mapOf count rw ro) e .step ≡ step
-
--- refused, where what follows gives 10 to an entry that doesn't exist
-abbrev pub EntryGated : ℕ → List ℕ → List ℕ → ℕ → ℕ → Found → Type 0
-EntryGated count rw ro size e (isIn inRO id offset codes step) = Entered count rw ro size e inRO id offset codes step
-EntryGated count rw ro size e (notFound r) =
-    (rest : List Verdict) → (length (mapOf count rw ro .entries) ≤ e → firstOf rest ≡ refuses (plain 10)) → bankOrder count rw ro size rest ≡ refuses r
-
--- the answer of a call that the gate refuses
+-- the answer of a call that names an entry, where none is found
 abbrev pub refusedOf : Found → Answer
-refusedOf (isIn inRO id offset codes step) = saysYes
+refusedOf (isIn f) = saysYes
 refusedOf (notFound r) = refused r
 
 -- past the gate with a byte of a set, and whether it has fields: the bits of fields are then the whole byte, else 0

@@ -16,10 +16,10 @@ use Rattle.rules.specs.Refuse.{chooses}
 use Rattle.rules.specs.Bank.{Bank, appSelIn, loop}
 use Rattle.rules.specs.Demands.{Accepted}
 use Rattle.rules.proofs.Lanes.{Width}
+use Rattle.descriptor.specs.Find.{listedOf}
 use Rattle.control_set.specs.declared.plan.Chosen.{Chosen}
 use Rattle.control_set.specs.declared.plan.Fields.{Fields}
 use Rattle.control_set.specs.Field.{bitsAt, withBits}
-use Rattle.control_set.specs.Values.{rowNumber, listedBy}
 
 -- a staged set, and a bank for it
 pub record Asked (c : Chosen) (b : Bank) : Type 0 where
@@ -42,7 +42,7 @@ abbrev pub fieldsOf : Entry → Fields
 fieldsOf e =
     record {
       mask = e .mask;
-      listed = listedBy (rowNumber (e .id)) (e .codes);
+      listed = listedOf e;
       offset = e .offset;
       parts = partsOf e;
       width = widthOf e;

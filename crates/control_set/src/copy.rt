@@ -6,7 +6,8 @@ ghost use Rattle.rules.specs.Load.{rwEntries};
 ghost use Rattle.rules.specs.Bank.{merge};
 ghost use Rattle.control_set.specs.Field.{Room, Spot, bitsAt, withBits};
 ghost use Rattle.control_set.specs.Plan.{Asked, Listed, Spread, Wants, Clear, lacksBy, copyLane, copyPart, copyEntry, copyAmong, bytesCopied};
-ghost use Rattle.control_set.specs.Values.{Tables};
+ghost use Rattle.descriptor.specs.Rows.{Tables};
+use crate::bank::place_of;
 use crate::bank::read_field;
 use crate::field::merged;
 use crate::plan::Chosen;
@@ -37,9 +38,8 @@ fn copy_field(bank: &mut [u8], staged: usize, offset: usize, part: usize, width:
     ensures { λ _. ⌜ now (bank .exit) ≡ withBits (now (bank .entry)) 2 offset part width lane (bitsAt (now (bank .entry)) staged offset part width lane) ⌝ }
 {
     let bits = read_field(bank, staged, offset, part, width, lane);
-    let first = (lane - 1) * width;
-    let at = offset + part * width + first / 8;
-    put_bits(&mut bank[512..768], at, first % 8, width, bits);
+    let p = place_of(offset, part, width, lane);
+    put_bits(&mut bank[512..768], p.byte, p.bit, width, bits);
 }
 
 // A field of a lane, if it is copied.
@@ -53,14 +53,16 @@ fn copy_lane(chosen: Chosen, f: Fields, part: usize, lane: usize, bank: &mut [u8
     }
 }
 
-// A part.
+// A part, up to the last chosen lane.
 fn copy_part(chosen: Chosen, f: Fields, part: usize, bank: &mut [u8])
     requires { ⌜ Asked chosen (now bank) × Spread f × (part < f .parts) ⌝ }
     ensures { λ _. ⌜ now (bank .exit) ≡ copyPart chosen f (now (bank .entry)) part (now (bank .entry)) ⌝ }
 {
+    let mut rest = chosen.lanes;
     let mut j = 0;
-    while j < 8 {
+    while rest != 0 {
         copy_lane(chosen, f, part, j + 1, bank);
+        rest = rest >> 1;
         j += 1;
     }
 }
@@ -110,14 +112,15 @@ fn copy_chosen(chosen: Chosen, apps: usize, f: Fields, bank: &mut [u8])
 // All RW entries.
 pub fn copy_all(
     classes: &[u8; 19],
-    rows: &[u32; 9],
+    rows: &[u32; 10],
+    values: &[u32; 10],
     chosen: Chosen,
     apps: usize,
     rw: &[u8],
     entries: usize,
     bank: &mut [u8],
 )
-    requires { ⌜ Tables (now classes) (now rows) × Listed (chosen .count) (now rw) entries ⌝ }
+    requires { ⌜ Tables (now classes) (now rows) (now values) × Listed (chosen .count) (now rw) entries ⌝ }
     requires { ⌜ Asked chosen (now bank) × Wants chosen (now bank) 9 apps × Clear 9 (lacksBy chosen (now bank)) ⌝ }
     ensures { λ _. ⌜ now (bank .exit) ≡ copyAmong chosen (rwEntries (chosen .count) (now (rw .entry))) (now (bank .entry)) (now (bank .entry)) ⌝ }
 {
@@ -126,7 +129,7 @@ pub fn copy_all(
     let mut at = 0;
     let mut sum = 0;
     while number < entries {
-        let f = fields_at(classes, rows, a, rw, at, sum);
+        let f = fields_at(classes, rows, values, a, rw, at, sum);
         copy_chosen(chosen, apps, f, bank);
         number += 1;
         sum += byte_from(rw, at + 2 + a);

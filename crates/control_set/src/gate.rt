@@ -1,9 +1,7 @@
 // What every call on a bank checks first: 9, 8, then 1 to 7.
-ghost use Rattle.control_set.specs.Gate.{Gated, EntryGated, ByteGated};
+ghost use Rattle.control_set.specs.Gate.{Gated, ByteGated};
 use descriptor::Covered;
-use descriptor::Found;
 use descriptor::cover;
-use descriptor::find;
 use descriptor::limits;
 use descriptor::load;
 use descriptor::shape_of;
@@ -45,19 +43,6 @@ pub fn admit(count: usize, rw: &[u8], ro: &[u8], size: usize) -> Gate
         },
         Loaded::Refused(r) => Gate::Refused(r),
     }
-}
-
-// The same for a call that names an entry: 9, 8, then 1 to 7 and an entry that doesn't exist.
-pub fn admit_entry(count: usize, rw: &[u8], ro: &[u8], size: usize, entry: usize) -> Found
-    ensures { λ r. ⌜ EntryGated count (now (rw .entry)) (now (ro .entry)) size entry r ⌝ }
-{
-    if !limits(count, rw, ro) {
-        return Found::Refused(Refusal::Plain(9));
-    }
-    if size < 784 {
-        return Found::Refused(Refusal::Plain(8));
-    }
-    find(count, rw, ro, entry)
 }
 
 // Whether a byte of a set has fields, for a call that names it; or the refusal.

@@ -15,10 +15,7 @@ mod gate; // 9, 8 and 1 to 7
 mod number; // numbers and bits
 mod plan; // 13 and 14
 
-use crate::accept::CLASSES;
-use crate::accept::ROWS;
 use crate::accept::accepts;
-use crate::accept::signed;
 use crate::bank::read_field;
 use crate::bank::write_field;
 use crate::copy::copy_all;
@@ -26,7 +23,6 @@ use crate::gate::Byte;
 use crate::gate::Gate;
 use crate::gate::admit;
 use crate::gate::admit_byte;
-use crate::gate::admit_entry;
 use crate::number::bits_of;
 use crate::number::number_of;
 use crate::number::weight_of;
@@ -36,7 +32,10 @@ use crate::plan::lowest_bad;
 use crate::plan::lowest_lacking;
 use crate::plan::wanted;
 use descriptor::Found;
-use descriptor::shape_of;
+use descriptor::find;
+use descriptor::table::CLASSES;
+use descriptor::table::ROWS;
+use descriptor::table::VALUES;
 use rules::Answer;
 use rules::Call;
 use rules::Loaded;
@@ -109,18 +108,12 @@ pub fn select(
     Answer::Yes
 }
 
-// A call that names an entry, refused by the gate.
+// A call that names an entry, where none is found.
 fn refused(found: Found) -> Answer
     ensures { λ r. ⌜ r ≡ refusedOf found ⌝ }
 {
     match found {
-        Found::In {
-            ro: _,
-            id: _,
-            offset: _,
-            codes: _,
-            step: _,
-        } => Answer::Yes,
+        Found::In(_) => Answer::Yes,
         Found::Refused(r) => Answer::Refused(r),
     }
 }
@@ -140,29 +133,21 @@ pub fn write(
     ensures answer { λ r. ⌜ r ≡ bankStep count (now (rw .entry)) (now (ro .entry)) (Call.Write set entry part lane value) (now (bank .entry)) .0 ⌝ }
     ensures after { λ _. ⌜ now (bank .exit) ≡ bankStep count (now (rw .entry)) (now (ro .entry)) (Call.Write set entry part lane value) (now (bank .entry)) .1 ⌝ }
 {
-    let found = admit_entry(count, rw, ro, bank.len(), entry);
-    let Found::In {
-        ro: in_ro,
-        id,
-        offset,
-        codes,
-        step: _,
-    } = found
-    else {
+    let found = find(count, rw, ro, bank.len(), entry);
+    let Found::In(f) = found else {
         return refused(found);
     };
-    let shape = shape_of(id);
-    if !((set < 3) & ((part < shape.parts) & ((1 <= lane) & (lane <= 8)))) {
+    if !((set < 3) & ((part < f.parts) & ((1 <= lane) & (lane <= 8)))) {
         return Answer::Refused(Refusal::Plain(10));
     }
-    if (set == 2) | in_ro {
+    if (set == 2) | f.ro {
         return Answer::Refused(Refusal::Plain(11));
     }
-    if !accepts(id, codes, value) {
+    if !accepts(f, value) {
         return Answer::Refused(Refusal::Plain(12));
     }
-    let bits = bits_of(shape.width, value);
-    write_field(bank, set, offset, part, shape.width, lane, bits);
+    let bits = bits_of(value);
+    write_field(bank, set, f.offset, part, f.width, lane, bits);
     Answer::Yes
 }
 
@@ -179,26 +164,18 @@ pub fn read(
 ) -> Answer
     ensures answer { λ r. ⌜ r ≡ bankStep count (now (rw .entry)) (now (ro .entry)) (Call.Read set entry part lane) (now (bank .entry)) .0 ⌝ }
 {
-    let found = admit_entry(count, rw, ro, bank.len(), entry);
-    let Found::In {
-        ro: in_ro,
-        id,
-        offset,
-        codes: _,
-        step: _,
-    } = found
-    else {
+    let found = find(count, rw, ro, bank.len(), entry);
+    let Found::In(f) = found else {
         return refused(found);
     };
-    let shape = shape_of(id);
-    if !((set < 3) & ((part < shape.parts) & ((1 <= lane) & (lane <= 8)))) {
+    if !((set < 3) & ((part < f.parts) & ((1 <= lane) & (lane <= 8)))) {
         return Answer::Refused(Refusal::Plain(10));
     }
-    if (set < 2) & in_ro {
+    if (set < 2) & f.ro {
         return Answer::Refused(Refusal::Plain(11));
     }
-    let bits = read_field(bank, set, offset, part, shape.width, lane);
-    Answer::Number(number_of(signed(id), shape.width, bits))
+    let bits = read_field(bank, set, f.offset, part, f.width, lane);
+    Answer::Number(number_of(f.most, bits))
 }
 
 // A call that names a byte, refused by the gate.
@@ -274,29 +251,21 @@ pub fn publish(
     ensures answer { λ r. ⌜ r ≡ bankStep count (now (rw .entry)) (now (ro .entry)) (Call.Publish entry part lane value) (now (bank .entry)) .0 ⌝ }
     ensures after { λ _. ⌜ now (bank .exit) ≡ bankStep count (now (rw .entry)) (now (ro .entry)) (Call.Publish entry part lane value) (now (bank .entry)) .1 ⌝ }
 {
-    let found = admit_entry(count, rw, ro, bank.len(), entry);
-    let Found::In {
-        ro: in_ro,
-        id,
-        offset,
-        codes,
-        step: _,
-    } = found
-    else {
+    let found = find(count, rw, ro, bank.len(), entry);
+    let Found::In(f) = found else {
         return refused(found);
     };
-    let shape = shape_of(id);
-    if !((part < shape.parts) & ((1 <= lane) & (lane <= 8))) {
+    if !((part < f.parts) & ((1 <= lane) & (lane <= 8))) {
         return Answer::Refused(Refusal::Plain(10));
     }
-    if !in_ro {
+    if !f.ro {
         return Answer::Refused(Refusal::Plain(11));
     }
-    if !accepts(id, codes, value) {
+    if !accepts(f, value) {
         return Answer::Refused(Refusal::Plain(12));
     }
-    let bits = bits_of(shape.width, value);
-    write_field(bank, 2, offset, part, shape.width, lane, bits);
+    let bits = bits_of(value);
+    write_field(bank, 2, f.offset, part, f.width, lane, bits);
     Answer::Yes
 }
 
@@ -321,18 +290,19 @@ pub fn apply(count: usize, rw: &[u8], ro: &[u8], bank: &mut [u8], set: usize, la
                 return Answer::Refused(Refusal::Plain(11));
             }
             let chosen = Chosen { count, set, lanes };
-            let classes = CLASSES;
-            let rows = ROWS;
-            let apps = wanted(chosen, bank);
             let lacking = lowest_lacking(chosen, bank);
-            let bad = lowest_bad(&classes, &rows, chosen, apps, rw, entries, bank);
             if lacking != 9 {
                 return Answer::Refused(Refusal::AtLane(13, lacking));
             }
+            let classes = CLASSES;
+            let rows = ROWS;
+            let values = VALUES;
+            let apps = wanted(chosen, bank);
+            let bad = lowest_bad(&classes, &rows, &values, chosen, apps, rw, entries, bank);
             if bad != 9 {
                 return Answer::Refused(Refusal::AtLane(14, bad));
             }
-            copy_all(&classes, &rows, chosen, apps, rw, entries, bank);
+            copy_all(&classes, &rows, &values, chosen, apps, rw, entries, bank);
             Answer::Yes
         }
     }
@@ -374,20 +344,13 @@ pub fn perform(count: usize, rw: &[u8], ro: &[u8], bank: &mut [u8], call: Call) 
 pub fn weight(count: usize, rw: &[u8], ro: &[u8], bank: &[u8], entry: usize, lane: usize) -> Answer
     ensures { λ r. ⌜ r ≡ weightCall count (now (rw .entry)) (now (ro .entry)) (now (bank .entry)) entry lane ⌝ }
 {
-    let found = admit_entry(count, rw, ro, bank.len(), entry);
-    let Found::In {
-        ro: _,
-        id,
-        offset,
-        codes: _,
-        step,
-    } = found
-    else {
+    let found = find(count, rw, ro, bank.len(), entry);
+    let Found::In(f) = found else {
         return refused(found);
     };
-    if !((id == 0x12) & ((1 <= lane) & (lane <= 8))) {
+    if !((f.id == 0x12) & ((1 <= lane) & (lane <= 8))) {
         return Answer::Refused(Refusal::Plain(10));
     }
-    let bits = read_field(bank, 2, offset, 0, 8, lane);
-    Answer::Number(weight_of(step, number_of(true, 8, bits)))
+    let bits = read_field(bank, 2, f.offset, 0, 8, lane);
+    Answer::Number(weight_of(f.step, number_of(127, bits)))
 }

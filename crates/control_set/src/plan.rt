@@ -1,22 +1,21 @@
 // The host's plan, at apply: 13 and 14, each with the lowest lane that it holds of.
 ghost use mathlib.Core.Path.{_≡_};
-ghost use Prim.Native.Nat.{_≤_, _<_};
-ghost use lib.ListN.{length};
+ghost use Prim.Native.Nat.{_-_, _^_, _≤_, _<_};
+ghost use lib.ListN.{length, getD};
 ghost use Rattle.rules.specs.Descriptor.{isApp, hasApp, highFirst, entryAt};
 ghost use Rattle.rules.specs.Load.{rwEntries};
 ghost use Rattle.rules.specs.Layout.{bankSize};
 ghost use Rattle.rules.specs.Refuse.{chooses};
 ghost use Rattle.rules.specs.Bank.{appSelIn};
 ghost use Rattle.descriptor.specs.Wide.{standingAt};
-ghost use Rattle.control_set.specs.Values.{Tables};
+ghost use Rattle.descriptor.specs.Rows.{Tables, classes as classTable};
 ghost use Rattle.control_set.specs.Plan.{Asked, Listed, Spread, Wants, joinedBy, fieldsOf, copiesBy, lacksBy, badAt, badIn, badAmong, Least};
-use crate::accept::listed;
-use crate::accept::row_in;
 use crate::bank::read_field;
 use descriptor::byte_from;
-use descriptor::codes_from;
+use descriptor::listed_from;
 use descriptor::mask_bytes;
 use descriptor::pair_from;
+use descriptor::shape_in;
 
 // What apply is asked: the count, a staged set, and lanes, bit i − 1 for lane i.
 pub struct Chosen {
@@ -45,27 +44,40 @@ fn mask_at(a: usize, s: &[u8], at: usize) -> usize
     pair_from(s, at)
 }
 
+// The class of an ID, by the lent table.
+fn class_of(classes: &[u8; 19], id: usize) -> usize
+    requires { ⌜ now classes ≡ classTable ⌝ }
+    ensures { λ r. ⌜ (r ≡ getD classTable id 0) × (r < 10) ⌝ }
+{
+    if id < 19 {
+        return classes[id] as usize;
+    }
+    0
+}
+
 // The entry at a place of a string, with its offset in a set.
 pub fn fields_at(
     classes: &[u8; 19],
-    rows: &[u32; 9],
+    rows: &[u32; 10],
+    values: &[u32; 10],
     a: usize,
     s: &[u8],
     at: usize,
     offset: usize,
 ) -> Fields
-    requires { ⌜ Tables (now classes) (now rows) ⌝ }
+    requires { ⌜ Tables (now classes) (now rows) (now values) ⌝ }
     requires { ⌜ (1 ≤ a) × (a ≤ 2) × (at ≤ 120) ⌝ }
     ensures { λ r. ⌜ r ≡ fieldsOf (entryAt a (now (s .entry)) (standingAt at offset)) ⌝ }
 {
-    let row = row_in(classes, rows, byte_from(s, at));
-    let codes = codes_from(row / 0x100000 % 16, s, at + 4 + a);
+    let class = class_of(classes, byte_from(s, at));
+    let row = rows[class];
+    let shape = shape_in(row);
     Fields {
         mask: mask_at(a, s, at + 2),
-        listed: listed(row, codes),
+        listed: listed_from(row, values[class], s, at + 4 + a),
         offset,
-        parts: (row / 0x10000000) as usize,
-        width: (row / 0x1000000 % 16) as usize,
+        parts: shape.parts,
+        width: shape.width,
     }
 }
 
@@ -190,13 +202,25 @@ fn lowest_in_part(chosen: Chosen, f: Fields, part: usize, top: usize, bank: &[u8
     top
 }
 
-// In an entry. A field of 8 bits holds no other.
+// Every code of a width of less than 8 bits, a bit for each.
+fn every_code(width: usize) -> usize
+    requires { ⌜ width ≤ 4 ⌝ }
+    ensures { λ r. ⌜ r ≡ 2 ^ (2 ^ width) - 1 ⌝ }
+{
+    let codes: usize = 1 << width;
+    (1 << codes) - 1
+}
+
+// In an entry. A field of 8 bits holds no other, nor does one that accepts every code.
 fn lowest_in_entry(chosen: Chosen, apps: usize, f: Fields, top: usize, bank: &[u8]) -> usize
     requires { ⌜ Asked chosen (now bank) × Spread f × Wants chosen (now bank) 9 apps ⌝ }
     requires { ⌜ (1 ≤ top) × (top ≤ 9) ⌝ }
     ensures { λ r. ⌜ Least top r (badIn chosen f (now (bank .entry))) ⌝ }
 {
-    if (f.mask & apps == 0) | (f.width == 8) {
+    if (f.parts == 0) | ((f.mask & apps == 0) | (f.width == 8)) {
+        return top;
+    }
+    if f.listed == every_code(f.width) {
         return top;
     }
     let mut lowest = top;
@@ -211,14 +235,15 @@ fn lowest_in_entry(chosen: Chosen, apps: usize, f: Fields, top: usize, bank: &[u
 // In all RW entries: the lowest lane of 1 to 8, else 9.
 pub fn lowest_bad(
     classes: &[u8; 19],
-    rows: &[u32; 9],
+    rows: &[u32; 10],
+    values: &[u32; 10],
     chosen: Chosen,
     apps: usize,
     rw: &[u8],
     entries: usize,
     bank: &[u8],
 ) -> usize
-    requires { ⌜ Tables (now classes) (now rows) × Listed (chosen .count) (now rw) entries ⌝ }
+    requires { ⌜ Tables (now classes) (now rows) (now values) × Listed (chosen .count) (now rw) entries ⌝ }
     requires { ⌜ Asked chosen (now bank) × Wants chosen (now bank) 9 apps ⌝ }
     ensures { λ r. ⌜ Least 9 r (badAmong chosen (rwEntries (chosen .count) (now (rw .entry))) (now (bank .entry))) ⌝ }
 {
@@ -228,7 +253,7 @@ pub fn lowest_bad(
     let mut at = 0;
     let mut sum = 0;
     while number < entries {
-        let f = fields_at(classes, rows, a, rw, at, sum);
+        let f = fields_at(classes, rows, values, a, rw, at, sum);
         lowest = lowest_in_entry(chosen, apps, f, lowest, bank);
         number += 1;
         sum += byte_from(rw, at + 2 + a);

@@ -12,9 +12,9 @@ use Rattle.rules.specs.Parameter.{rowOf, Side, RW, RO, both, Extras, none, code
 use Rattle.rules.specs.Descriptor.{byteAt, stepOf, mediaSide, mayStand, refuse}
 use Rattle.descriptor.specs.declared.step.Stepped.{Stepped}
 use Rattle.descriptor.specs.declared.step.Stepped.the-variants.{Refused as stops}
-use Rattle.descriptor.specs.Rows.{sideOf, partsIn, neededIn, extrasIn, sideNumber, extrasNumber, Row}
+use Rattle.descriptor.specs.Rows.{sideIn, partsIn, neededIn, extrasIn}
 use Rattle.descriptor.specs.Steps.{steppedOf, stepBy, standsBy, Standing}
-use Rattle.descriptor.proofs.Table.{row}
+use Rattle.descriptor.proofs.TableRows.{row, sideNumber, extrasNumber, Row}
 
 pub pass : (st : State) (n : ℕ) (d : Decoded) {b : Bool} {r : Stepped} → b ≡ false → r ≡ steppedOf st d → r ≡ steppedOf st (refuse b n d)
 unfolding refuse
@@ -47,7 +47,7 @@ module _ {line a : ℕ} {s : List ℕ} {st : State} (g : Standing line a s st) w
   is : Row id line
   is = rw (g .row-is) (row id)
 
-  pub side-is : (ro : Bool) → standsBy (sideOf line) ro ≡ mayStand (rowOf id .side) ro
+  pub side-is : (ro : Bool) → standsBy (sideIn line) ro ≡ mayStand (rowOf id .side) ro
   side-is ro = rw (is .side) (stands (rowOf id .side) ro)
 
   -- MemoryLength, PropertyFlags and step are in the string

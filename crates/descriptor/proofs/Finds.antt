@@ -1,91 +1,143 @@
 -- The laws of `foundOf`: from where an entry stands, and what a caller learns of the entry that is found.
-use mathlib.Core.Path.{_≡_, refl, sym, ap}
+use mathlib.Core.Path.{_≡_, refl, sym, ap, _∙_}
 use mathlib.Core.Bool.{Bool, true, false, not, cond}
-use mathlib.Core.List.{List}
+use mathlib.Core.List.{List, _∷_}
 use Prim.Native.Nat.{ℕ, _+_, _≤_, _<_}
 use native.Mathlib.Omega.{arith}
+use borrow.Author.Tests.{le-ltb}
 use lib.ListN.{length}
 use Rattle.rules.specs.declared.Refusal.{Refusal}
+use Rattle.rules.specs.declared.Refusal.the-variants.{Plain as plain}
 use Rattle.rules.specs.Descriptor.{maskBytes, entryAt}
-use Rattle.rules.specs.Load.{Map, mapOf}
-use Rattle.rules.specs.Place.{entry, isRW}
-use Rattle.rules.specs.Refuse.{Verdict, passes, refuses}
+use Rattle.rules.specs.Load.{Map, sized, mapOf}
+use Rattle.rules.specs.Layout.{bankSize}
+use Rattle.rules.specs.Place.{entry, isRW, partsOf, widthOf, signedOf}
+use Rattle.rules.specs.Refuse.{Verdict, passes, refuses, firstOf, check9, check8, check1to7, orderOf, bankOrder}
 use Rattle.rules.specs.Beside.{entryVerdict}
 use Rattle.rules.specs.Demands.{Accepted}
 use Rattle.rules.proofs.EntryParts.{verdict-passes}
 use Rattle.rules.proofs.EntryHeads.{Head, entry-head, strings-short}
+use Rattle.rules.proofs.Steps.{bank-order-9, bank-order-8}
 use Rattle.descriptor.specs.declared.Located.the-variants.{At as at, Refused as nowhere}
+use Rattle.descriptor.specs.declared.Named.{Named}
 use Rattle.descriptor.specs.declared.Found.the-variants.{In as isIn, Refused as notFound}
 use Rattle.descriptor.specs.Locate.{located, locatedOf}
 use Rattle.descriptor.specs.Wide.{standingAt}
-use Rattle.descriptor.specs.Find.{entryIn, found, foundOf}
+use Rattle.descriptor.specs.Find.{mostBy, namedOf, found, foundOf}
 
--- an entry that is found is the map's
-pub record InMap (count : ℕ) (rw ro : List ℕ) (e : ℕ) (inRO : Bool) (id offset codes step : ℕ) : Type 0 where
+-- an entry of the map of strings that load, and what a call needs of it
+pub record InMap (count : ℕ) (rw ro : List ℕ) (e : ℕ) (f : Named) : Type 0 where
   pub ok : Accepted count rw ro
   pub there : e < length (mapOf count rw ro .entries)
-  pub side : not (isRW (mapOf count rw ro) e) ≡ inRO
-  pub id-is : entry (mapOf count rw ro) e .id ≡ id
-  pub offset-is : entry (mapOf count rw ro) e .offset ≡ offset
-  pub codes-is : entry (mapOf count rw ro) e .codes ≡ codes
-  pub step-is : entry (mapOf count rw ro) e .step ≡ step
+  pub is : namedOf (not (isRW (mapOf count rw ro) e)) (entry (mapOf count rw ro) e) ≡ f
 
-module _ (count : ℕ) (first last : List ℕ) (e : ℕ) where
+-- what is found of it
+module _ (count : ℕ) (first last : List ℕ) {e : ℕ} {f : Named} (z : InMap count first last e f) where
+  pub id-is : f .id ≡ entry (mapOf count first last) e .id
+  unfolding namedOf
+  id-is = ap (λ (x : Named). x .id) (sym (z .is))
+
+  pub side-is : f .ro ≡ not (isRW (mapOf count first last) e)
+  unfolding namedOf
+  side-is = ap (λ (x : Named). x .ro) (sym (z .is))
+
+  pub offset-is : f .offset ≡ entry (mapOf count first last) e .offset
+  unfolding namedOf
+  offset-is = ap (λ (x : Named). x .offset) (sym (z .is))
+
+  pub parts-is : f .parts ≡ partsOf (entry (mapOf count first last) e)
+  unfolding namedOf
+  parts-is = ap (λ (x : Named). x .parts) (sym (z .is))
+
+  pub width-is : f .width ≡ widthOf (entry (mapOf count first last) e)
+  unfolding namedOf
+  width-is = ap (λ (x : Named). x .width) (sym (z .is))
+
+  pub most-is : f .most ≡ mostBy (widthOf (entry (mapOf count first last) e)) (signedOf (entry (mapOf count first last) e))
+  unfolding namedOf
+  most-is = ap (λ (x : Named). x .most) (sym (z .is))
+
+  pub step-is : f .step ≡ entry (mapOf count first last) e .step
+  unfolding namedOf
+  step-is = ap (λ (x : Named). x .step) (sym (z .is))
+
+-- a call on a bank that is large enough is refused as one that takes none
+pub no-check8 : (count : ℕ) (first last : List ℕ) (size : ℕ) (rest : List Verdict) → bankSize ≤ size → bankOrder count first last size rest ≡ orderOf count first last rest
+unfolding bankOrder orderOf check8
+no-check8 count first last size rest l = rw (le-ltb size bankSize l) (go (check9 count first last))
+  where
+    go : (v : Verdict) → firstOf (v ∷ passes ∷ check1to7 count first last ∷ rest) ≡ firstOf (v ∷ check1to7 count first last ∷ rest)
+    go passes = refl
+    go (refuses r) = refl
+
+-- only a refusal finds nothing
+pub found-stops : (v : Verdict) (f : Named) (r : Refusal) → found v (isIn f) ≡ notFound r → v ≡ refuses r
+found-stops passes f r q = let o : _≡_ {A = ℕ} 0 1 = cc in absurd (omega arith)
+found-stops (refuses r′) f r q = let z : r′ ≡ r = cc in rw z refl
+
+module _ (count : ℕ) (first last : List ℕ) (size e : ℕ) where
   abbrev m : Map
   m = mapOf count first last
 
-  pub located-refused-found : (r : Refusal) → locatedOf count first last e ≡ nowhere r → notFound r ≡ foundOf count first last e
-  unfolding locatedOf foundOf
-  located-refused-found r h = go (entryVerdict count first last e) h
-    where
-      go : (v : Verdict) → located v (at (not (isRW m e)) (entry m e .start) (entry m e .length) (entry m e .offset)) ≡ nowhere r → notFound r ≡ found v (entryIn (not (isRW m e)) (entry m e))
-      go passes q = let o : _≡_ {A = ℕ} 0 1 = cc in absurd (omega arith)
-      go (refuses r′) q = let z : r′ ≡ r = cc in rw z refl
+  -- 9 and 8 of a bank that is too small
+  pub found-9 : sized count first last ≡ false → notFound (plain 9) ≡ foundOf count first last size e
+  unfolding foundOf
+  found-9 h = rw (bank-order-9 count first last _ size h) refl
 
-  -- the bytes at its start say what it is
-  module _ (x : Bool) (s l o : ℕ) (h : locatedOf count first last e ≡ at x s l o) where
-    pub located-found : (entryIn x (entryAt (maskBytes count) (cond x last first) (standingAt s o)) ≡ foundOf count first last e) × (s ≤ 120)
-    unfolding locatedOf foundOf
-    located-found = go (entryVerdict count first last e) refl h
+  pub found-8 : sized count first last ≡ true → size < bankSize → notFound (plain 8) ≡ foundOf count first last size e
+  unfolding foundOf
+  found-8 h l = rw (bank-order-8 count first last _ size h l) refl
+
+  module _ (l : bankSize ≤ size) where
+    verdict : foundOf count first last size e ≡ found (entryVerdict count first last e) (isIn (namedOf (not (isRW m e)) (entry m e)))
+    unfolding foundOf entryVerdict
+    verdict = rw (no-check8 count first last size _ l) refl
+
+    pub located-refused-found : (r : Refusal) → locatedOf count first last e ≡ nowhere r → notFound r ≡ foundOf count first last size e
+    unfolding locatedOf
+    located-refused-found r h = go (entryVerdict count first last e) h ∙ sym verdict
       where
-        side : (b : Bool) → Head (maskBytes count) (cond b first last) (entry m e)
-            → (entryIn (not b) (entryAt (maskBytes count) (cond (not b) last first) (standingAt (entry m e .start) (entry m e .offset))) ≡ entryIn (not b) (entry m e))
-            × (entry m e .start + 2 + maskBytes count < length (cond b first last))
-        side true d = (ap (entryIn false) (sym (d .says)), d .room)
-        side false d = (ap (entryIn true) (sym (d .says)), d .room)
+        go : (v : Verdict) → located v (at (not (isRW m e)) (entry m e .start) (entry m e .length) (entry m e .offset)) ≡ nowhere r
+            → notFound r ≡ found v (isIn (namedOf (not (isRW m e)) (entry m e)))
+        go passes q = let o : _≡_ {A = ℕ} 0 1 = cc in absurd (omega arith)
+        go (refuses r′) q = let z : r′ ≡ r = cc in rw z refl
 
-        short : (b : Bool) → Accepted count first last → length (cond b first last) ≤ 120
-        short true ok = strings-short count first last ok .0
-        short false ok = strings-short count first last ok .1
+    -- the bytes at its start say what it is
+    module _ (x : Bool) (s n o : ℕ) (h : locatedOf count first last e ≡ at x s n o) where
+      pub located-found : (isIn (namedOf x (entryAt (maskBytes count) (cond x last first) (standingAt s o))) ≡ foundOf count first last size e) × (s ≤ 120)
+      unfolding locatedOf
+      located-found = let z = go (entryVerdict count first last e) refl h in (z .0 ∙ sym verdict, z .1)
+        where
+          side : (b : Bool) → Head (maskBytes count) (cond b first last) (entry m e)
+              → (isIn (namedOf (not b) (entryAt (maskBytes count) (cond (not b) last first) (standingAt (entry m e .start) (entry m e .offset)))) ≡ isIn (namedOf (not b) (entry m e)))
+              × (entry m e .start + 2 + maskBytes count < length (cond b first last))
+          side true d = (ap (λ y. isIn (namedOf false y)) (sym (d .says)), d .room)
+          side false d = (ap (λ y. isIn (namedOf true y)) (sym (d .says)), d .room)
 
-        go : (v : Verdict) → entryVerdict count first last e ≡ v
-            → located v (at (not (isRW m e)) (entry m e .start) (entry m e .length) (entry m e .offset)) ≡ at x s l o
-            → (entryIn x (entryAt (maskBytes count) (cond x last first) (standingAt s o)) ≡ found v (entryIn (not (isRW m e)) (entry m e))) × (s ≤ 120)
-        go passes p q =
-            let a : not (isRW m e) ≡ x = cc in
-            let b : entry m e .start ≡ s = cc in
-            let d : entry m e .offset ≡ o = cc in
-            let (ok, lt) = verdict-passes count first last e p in
-            let (y, z) = side (isRW m e) (entry-head count first last ok e lt) in
-            rw (← a, ← b, ← d) (y, omega (arith, short (isRW m e) ok))
+          short : (b : Bool) → Accepted count first last → length (cond b first last) ≤ 120
+          short true ok = strings-short count first last ok .0
+          short false ok = strings-short count first last ok .1
+
+          go : (v : Verdict) → entryVerdict count first last e ≡ v
+              → located v (at (not (isRW m e)) (entry m e .start) (entry m e .length) (entry m e .offset)) ≡ at x s n o
+              → (isIn (namedOf x (entryAt (maskBytes count) (cond x last first) (standingAt s o))) ≡ found v (isIn (namedOf (not (isRW m e)) (entry m e)))) × (s ≤ 120)
+          go passes p q =
+              let a : not (isRW m e) ≡ x = cc in
+              let b : entry m e .start ≡ s = cc in
+              let d : entry m e .offset ≡ o = cc in
+              let (ok, lt) = verdict-passes count first last e p in
+              let (y, z) = side (isRW m e) (entry-head count first last ok e lt) in
+              rw (← a, ← b, ← d) (y, omega (arith, short (isRW m e) ok))
+          go (refuses r) p q = let z : _≡_ {A = ℕ} 0 1 = cc in absurd (omega arith)
+
+    -- for callers
+
+    pub found-refused : (r : Refusal) → foundOf count first last size e ≡ notFound r → entryVerdict count first last e ≡ refuses r
+    found-refused r h = found-stops (entryVerdict count first last e) _ r (sym verdict ∙ h)
+
+    pub found-in : (f : Named) → foundOf count first last size e ≡ isIn f → InMap count first last e f
+    found-in f h = go (entryVerdict count first last e) refl (sym verdict ∙ h)
+      where
+        go : (v : Verdict) → entryVerdict count first last e ≡ v → found v (isIn (namedOf (not (isRW m e)) (entry m e))) ≡ isIn f → InMap count first last e f
+        go passes p q = let (ok, lt) = verdict-passes count first last e p in record { ok = ok; there = lt; is = cc }
         go (refuses r) p q = let z : _≡_ {A = ℕ} 0 1 = cc in absurd (omega arith)
-
-  -- for callers
-
-  pub found-refused : (r : Refusal) → foundOf count first last e ≡ notFound r → entryVerdict count first last e ≡ refuses r
-  unfolding foundOf
-  found-refused r h = go (entryVerdict count first last e) h
-    where
-      go : (v : Verdict) → found v (entryIn (not (isRW m e)) (entry m e)) ≡ notFound r → v ≡ refuses r
-      go passes q = let o : _≡_ {A = ℕ} 0 1 = cc in absurd (omega arith)
-      go (refuses r′) q = let z : r′ ≡ r = cc in rw z refl
-
-  pub found-in : (inRO : Bool) (i o c s : ℕ) → foundOf count first last e ≡ isIn inRO i o c s → InMap count first last e inRO i o c s
-  unfolding foundOf
-  found-in inRO i o c s h = go (entryVerdict count first last e) refl h
-    where
-      go : (v : Verdict) → entryVerdict count first last e ≡ v
-          → found v (entryIn (not (isRW m e)) (entry m e)) ≡ isIn inRO i o c s
-          → InMap count first last e inRO i o c s
-      go passes p q = let (ok, lt) = verdict-passes count first last e p in record { ok = ok; there = lt; side = cc; id-is = cc; offset-is = cc; codes-is = cc; step-is = cc }
-      go (refuses r) p q = let z : _≡_ {A = ℕ} 0 1 = cc in absurd (omega arith)

@@ -1,5 +1,7 @@
 -- Laws that the functions' proofs cite.
-pub mod Table
+pub mod TableRows
+pub mod Bits
+pub mod Accepts
 pub mod Chain
 pub mod Scan
 pub mod Both

@@ -1,4 +1,4 @@
--- The wide reading of an entry: what is read by the code's row is what is read by document 01's table.
+-- The wide reading of an entry: what is read by the code's rows is what is read by document 01's table.
 use mathlib.Core.Path.{_≡_, refl, sym, _∙_}
 use mathlib.Core.Bool.{Bool, true, false, _&&_, cond}
 use mathlib.Core.List.{List}
@@ -9,36 +9,52 @@ use lib.Dec.{ltb, eqb}
 use lib.ListN.{length, List·getD-eq-default}
 use Rattle.rules.specs.Parameter.{rowOf, Extras, none, codes, indexCodes, indexStep}
 use Rattle.rules.specs.Descriptor.{byteAt, highFirst, codesOf, entryAt}
+use Rattle.rules.specs.Place.{partsOf, widthOf, signedOf}
 use Rattle.rules.proofs.Checks.{high-two}
-use Rattle.descriptor.specs.declared.Found.the-variants.{In as isIn}
-use Rattle.descriptor.specs.Rows.{rowNumber, extrasIn, extrasNumber}
+use Rattle.descriptor.specs.declared.Named.{Named}
+use Rattle.descriptor.specs.Rows.{rowNumber, valuesNumber, extrasIn, partsIn, widthIn, signedIn}
 use Rattle.descriptor.specs.Steps.{stepBy}
 use Rattle.descriptor.specs.Wide.{codesBy, standingAt}
-use Rattle.descriptor.specs.Find.{entryIn}
-use Rattle.descriptor.proofs.Table.{row}
+use Rattle.descriptor.specs.Find.{leastBy, mostBy, listedBy, namedOf}
+use Rattle.descriptor.proofs.TableRows.{row, extrasNumber}
+use Rattle.descriptor.proofs.Accepts.{values-signed}
 use Rattle.descriptor.proofs.Chain.{step-by}
 
-codes-by : (x : Extras) (s : List ℕ) (at : ℕ) → codesBy (extrasNumber x) s at ≡ codesOf x s at
+pub codes-by : (x : Extras) (s : List ℕ) (at : ℕ) → codesBy (extrasNumber x) s at ≡ codesOf x s at
 unfolding codesBy codesOf
 codes-by none s at = refl
 codes-by codes s at = refl
 codes-by indexCodes s at = refl
 codes-by indexStep s at = refl
 
+-- the code mask, read by the row's column
+pub row-codes : (id : ℕ) (s : List ℕ) (at : ℕ) → codesBy (extrasIn (rowNumber id)) s at ≡ codesOf (rowOf id .extras) s at
+row-codes id s at = rw (row id .extras) (codes-by (rowOf id .extras) s at)
+
 -- what a call needs of an entry
-pub brief-entry :
+pub named-entry :
     (inRO : Bool) (a : ℕ) (s : List ℕ) (start offset : ℕ)
-    → isIn
-    inRO
-    (byteAt s start)
-    offset
-    (codesBy (extrasIn (rowNumber (byteAt s start))) s (start + 4 + a))
-    (stepBy (extrasIn (rowNumber (byteAt s start))) s (start + 4 + a))
-    ≡ entryIn inRO (entryAt a s (standingAt start offset))
-brief-entry inRO a s start offset =
+    → _≡_ {A = Named}
+    (record {
+      ro = inRO;
+      id = byteAt s start;
+      offset = offset;
+      parts = partsIn (rowNumber (byteAt s start));
+      width = widthIn (rowNumber (byteAt s start));
+      least = leastBy (signedIn (valuesNumber (byteAt s start)));
+      most = mostBy (widthIn (rowNumber (byteAt s start))) (signedIn (valuesNumber (byteAt s start)));
+      listed = listedBy (rowNumber (byteAt s start)) (valuesNumber (byteAt s start)) (codesBy (extrasIn (rowNumber (byteAt s start))) s (start + 4 + a));
+      step = stepBy (extrasIn (rowNumber (byteAt s start))) s (start + 4 + a);
+    })
+    (namedOf inRO (entryAt a s (standingAt start offset)))
+unfolding namedOf partsOf widthOf signedOf
+named-entry inRO a s start offset =
     rw (
+      row-codes (byteAt s start) s (start + 4 + a),
       row (byteAt s start) .extras,
-      codes-by (rowOf (byteAt s start) .extras) s (start + 4 + a),
+      row (byteAt s start) .parts,
+      row (byteAt s start) .width,
+      values-signed (byteAt s start),
       step-by (rowOf (byteAt s start) .extras) s (start + 4 + a),
     )
     refl

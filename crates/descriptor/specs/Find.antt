@@ -1,28 +1,71 @@
--- What a call needs of the entry of a number, with the string that it stands in, refused as the entry call is; and what the table says of an ID.
-use mathlib.Core.Bool.{Bool, not}
-use mathlib.Core.List.{List}
+-- What a call needs of the entry that it names, refused as a call on a bank is; and what the table says of an ID.
+use mathlib.Core.Bool.{Bool, _&&_, _||_, not, cond}
+use mathlib.Core.List.{List, [], _∷_}
 use Prim.Native.Nat.{ℕ}
+use lib.Bits.{bitAnd}
+use lib.IntN.{ℤ, pos, negsuc}
+use lib.Signed.{leZ}
+use lib.ListN.{length}
+use lib.Dec.{ltb, eqb}
 use Rattle.rules.specs.declared.Entry.{Entry}
-use Rattle.rules.specs.Parameter.{rowOf}
+use Rattle.rules.specs.declared.Refusal.the-variants.{Plain as plain}
+use Rattle.rules.specs.Parameter.{codes, rowOf}
 use Rattle.rules.specs.Load.{mapOf}
-use Rattle.rules.specs.Place.{entry, isRW}
-use Rattle.rules.specs.Refuse.{Verdict, passes, refuses}
-use Rattle.rules.specs.Beside.{entryVerdict}
+use Rattle.rules.specs.Place.{entry, isRW, partsOf, widthOf, signedOf}
+use Rattle.rules.specs.Accept.{inCodes}
+use Rattle.rules.specs.Refuse.{Verdict, passes, refuses, refuseIf, bankOrder}
 use Rattle.descriptor.specs.declared.Found.{Found}
 use Rattle.descriptor.specs.declared.Found.the-variants.{In as isIn, Refused as notFound}
+use Rattle.descriptor.specs.declared.Named.{Named}
 use Rattle.descriptor.specs.declared.Shape.{Shape}
+use Rattle.descriptor.specs.Rows.{rowNumber, valuesNumber, extrasIn, partsIn, widthIn, codesIn}
+
+-- the bounds of a value before codes are asked
+abbrev pub leastBy : Bool → ℤ
+leastBy signed = cond signed (negsuc 127) (pos 0)
+
+abbrev pub mostBy : ℕ → Bool → ℤ
+mostBy width signed = cond (eqb width 8) (cond signed (pos 127) (pos 255)) (pos 15)
+
+-- the codes that the rows of an ID accept, given an entry's code mask
+unfoldable pub listedBy : ℕ → ℕ → ℕ → ℕ
+listedBy row values mask = cond (eqb (extrasIn row) 0) (codesIn values) (bitAnd (codesIn values) mask)
+
+abbrev pub listedOf : Entry → ℕ
+listedOf e = listedBy (rowNumber (e .id)) (valuesNumber (e .id)) (e .codes)
 
 -- what a call needs of an entry
-abbrev pub entryIn : Bool → Entry → Found
-entryIn inRO e = isIn inRO (e .id) (e .offset) (e .codes) (e .step)
+unfoldable pub namedOf : Bool → Entry → Named
+namedOf inRO e =
+    record {
+      ro = inRO;
+      id = e .id;
+      offset = e .offset;
+      parts = partsOf e;
+      width = widthOf e;
+      least = leastBy (signedOf e);
+      most = mostBy (widthOf e) (signedOf e);
+      listed = listedOf e;
+      step = e .step;
+    }
+
+-- the values that its fields accept
+unfoldable pub acceptedBy : Named → ℤ → Bool
+acceptedBy f v = (leZ (f .least) v && leZ v (f .most)) && (eqb (f .width) 8 || inCodes codes (f .listed) v)
 
 abbrev pub found : Verdict → Found → Found
 found passes x = x
 found (refuses r) x = notFound r
 
-unfoldable pub foundOf : ℕ → List ℕ → List ℕ → ℕ → Found
-foundOf count rw ro e = found (entryVerdict count rw ro e) (entryIn (not (isRW (mapOf count rw ro) e)) (entry (mapOf count rw ro) e))
+unfoldable pub foundOf : ℕ → List ℕ → List ℕ → ℕ → ℕ → Found
+foundOf count rw ro size e =
+    found
+    (bankOrder count rw ro size (refuseIf (not (ltb e (length (mapOf count rw ro .entries)))) (plain 10) ∷ []))
+    (isIn (namedOf (not (isRW (mapOf count rw ro) e)) (entry (mapOf count rw ro) e)))
 
--- parts and bits a lane
+-- parts and bits a lane, by a row and by an ID
+abbrev pub shapeIn : ℕ → Shape
+shapeIn row = record { parts = partsIn row; width = widthIn row }
+
 abbrev pub shapeOf : ℕ → Shape
 shapeOf id = record { parts = rowOf id .parts; width = rowOf id .width }

@@ -9,29 +9,32 @@ ghost use Rattle.rules.specs.Load.{sized, loadOf};
 ghost use Rattle.rules.specs.MapProgram.{mapOutput};
 ghost use Rattle.rules.specs.Beside.{entryAnswer, entryBytes};
 ghost use Rattle.descriptor.specs.Locate.{locatedOf};
-ghost use Rattle.descriptor.specs.Find.{foundOf, shapeOf};
+ghost use Rattle.descriptor.specs.Find.{foundOf, shapeIn, shapeOf, listedBy};
 ghost use Rattle.descriptor.specs.Cover.{coverOf};
+ghost use Rattle.descriptor.specs.Rows.{extrasIn};
 ghost use Rattle.descriptor.specs.Wide.{codesBy};
 
-mod rows; // constant rows by ID class
+pub mod table; // document 01's table: constant rows by ID class
+mod rows; // the row of an ID
 mod step; // one entry: the checks 1 to 7
 mod walk; // one string
-mod wide; // one entry: what a call needs of it
+mod reading; // one entry: what a call needs of it
 mod search; // an entry by its number, and by a byte of its space
 mod text; // the map program's text
 
-use crate::rows::CLASSES;
-use crate::rows::ROWS;
+use crate::reading::named_at;
 use crate::rows::row_of;
 use crate::search::look;
 use crate::search::seek;
 use crate::step::byte_at;
+use crate::table::CLASSES;
+use crate::table::ROWS;
+use crate::table::VALUES;
 use crate::text::put_refused;
 use crate::text::put_strings;
 use crate::walk::in_limits;
 use crate::walk::refused;
 use crate::walk::scan;
-use crate::wide::found_at;
 use rules::Answer;
 use rules::Loaded;
 use rules::Refusal;
@@ -156,22 +159,35 @@ pub fn entry_bytes<'a>(count: usize, rw: &'a [u8], ro: &'a [u8], entry: usize) -
     &rw[start..end]
 }
 
-// What a call needs of an entry, and whether it stands in the RO string.
+// What a call needs of the entry that it names: whether it stands in the RO string, its ID, where its fields lie, the bounds of
+// a value before codes are asked, the codes that fields of fewer bits than 8 accept, a bit for each, and the step.
+pub struct Named {
+    pub ro: bool,
+    pub id: usize,
+    pub offset: usize,
+    pub parts: usize,
+    pub width: usize,
+    pub least: i64,
+    pub most: i64,
+    pub listed: usize,
+    pub step: usize,
+}
+
 pub enum Found {
-    In {
-        ro: bool,
-        id: usize,
-        offset: usize,
-        codes: usize,
-        step: usize,
-    },
+    In(Named),
     Refused(Refusal),
 }
 
-// The entry of a number, or the refusal of the entry call.
-pub fn find(count: usize, rw: &[u8], ro: &[u8], entry: usize) -> Found
-    ensures { λ r. ⌜ r ≡ foundOf count (now (rw .entry)) (now (ro .entry)) entry ⌝ }
+// The entry of a number, for a call on a bank of a size: 9, 8, then 1 to 7, and 10 for an entry that doesn't exist.
+pub fn find(count: usize, rw: &[u8], ro: &[u8], size: usize, entry: usize) -> Found
+    ensures { λ r. ⌜ r ≡ foundOf count (now (rw .entry)) (now (ro .entry)) size entry ⌝ }
 {
+    if size < 784 {
+        if !limits(count, rw, ro) {
+            return Found::Refused(Refusal::Plain(9));
+        }
+        return Found::Refused(Refusal::Plain(8));
+    }
     let place = locate(count, rw, ro, entry);
     match place {
         Located::Refused(r) => Found::Refused(r),
@@ -183,11 +199,12 @@ pub fn find(count: usize, rw: &[u8], ro: &[u8], entry: usize) -> Found
         } => {
             let a = mask_bytes(count);
             let classes = CLASSES;
-            let table = ROWS;
+            let rows = ROWS;
+            let values = VALUES;
             if in_ro {
-                return found_at(&classes, &table, true, a, ro, start, offset);
+                return Found::In(named_at(&classes, &rows, &values, true, a, ro, start, offset));
             }
-            found_at(&classes, &table, false, a, rw, start, offset)
+            Found::In(named_at(&classes, &rows, &values, false, a, rw, start, offset))
         }
     }
 }
@@ -198,17 +215,23 @@ pub struct Shape {
     pub width: usize,
 }
 
+// By a row.
+pub fn shape_in(row: u32) -> Shape
+    ensures { λ r. ⌜ (r ≡ shapeIn row) × (r .parts < 16) × (r .width < 16) ⌝ }
+{
+    Shape {
+        parts: (row / 0x100000 % 16) as usize,
+        width: (row / 0x10000 % 16) as usize,
+    }
+}
+
 pub fn shape_of(id: usize) -> Shape
     ensures { λ r. ⌜ (r ≡ shapeOf id) × (r .parts < 16) × (r .width < 16) ⌝ }
 {
     if id < 256 {
         let classes = CLASSES;
         let table = ROWS;
-        let row = row_of(&classes, &table, id as u8);
-        return Shape {
-            parts: (row / 0x100000 % 16) as usize,
-            width: (row / 0x10000 % 16) as usize,
-        };
+        return shape_in(row_of(&classes, &table, id as u8));
     }
     Shape { parts: 0, width: 0 }
 }
@@ -319,7 +342,7 @@ pub fn pair_from(s: &[u8], at: usize) -> usize
 }
 
 // The code mask of an entry whose extras begin at a place, by the number of its extras; 0 where there is none.
-pub fn codes_from(extras: u32, s: &[u8], at: usize) -> usize
+fn codes_from(extras: u32, s: &[u8], at: usize) -> usize
     ensures { λ r. ⌜ r ≡ codesBy extras (now (s .entry)) at ⌝ }
 {
     if extras == 1 {
@@ -329,4 +352,16 @@ pub fn codes_from(extras: u32, s: &[u8], at: usize) -> usize
         return pair_from(s, at + 1);
     }
     0
+}
+
+// The codes that the fields of an entry accept, a bit for each, by the rows of its ID; its extras begin at a place.
+pub fn listed_from(row: u32, values: u32, s: &[u8], at: usize) -> usize
+    ensures { λ r. ⌜ r ≡ listedBy row values (codesBy (extrasIn row) (now (s .entry)) at) ⌝ }
+{
+    let all = (values % 0x10000) as usize;
+    let extras = row / 0x10000000;
+    if extras == 0 {
+        return all;
+    }
+    all & codes_from(extras, s, at)
 }

@@ -1,8 +1,9 @@
--- The place of a field, from the entry that was found and the shape of its ID: one law for each way out.
-use mathlib.Core.Path.{_≡_, refl}
-use mathlib.Core.Bool.{Bool, true, false, _&&_}
+-- The place of a field, from the entry that was found: one law for each way out.
+use mathlib.Core.Path.{_≡_}
+use mathlib.Core.Bool.{true, false, _&&_}
 use mathlib.Core.List.{List}
-use Prim.Native.Nat.{ℕ, _+_, _-_, _*_, _/_, _%_, _≤_}
+use Prim.Native.Nat.{ℕ, _+_, _-_, _*_, _/_, _%_, _≤_, _<_}
+use native.Mathlib.Nat.{mod-lt}
 use native.Mathlib.Omega.{arith}
 use lib.Dec.{ltb}
 use Rattle.rules.specs.declared.Refusal.the-variants.{Plain as plain}
@@ -12,34 +13,35 @@ use Rattle.rules.specs.Place.{entry, partsOf, widthOf, isSet, isStaged, isLane}
 use Rattle.rules.specs.Beside.{placeOf}
 use Rattle.rules.proofs.EntryHeads.{entry-fits}
 use Rattle.rules.proofs.PlaceCalls.{place-10, place-11, place-at}
-use Rattle.descriptor.specs.declared.Shape.{Shape}
-use Rattle.descriptor.specs.Find.{shapeOf}
-use Rattle.descriptor.proofs.Finds.{InMap}
+use Rattle.descriptor.specs.declared.Named.{Named}
+use Rattle.descriptor.proofs.Finds.{InMap, offset-is, parts-is, width-is, side-is}
+use Rattle.descriptor.specs.Rows.{rowNumber}
+use Rattle.descriptor.proofs.TableRows.{row}
 
-module _ (count : ℕ) (first last : List ℕ) {e : ℕ} {inRO : Bool} {id offset codes step : ℕ} (f : InMap count first last e inRO id offset codes step) where
-  pub offset-small : offset ≤ 256
-  offset-small = rw (← f .offset-is) (omega (arith, entry-fits count first last (f .ok) e (f .there)))
+module _ (count : ℕ) (first last : List ℕ) {e : ℕ} {f : Named} (z : InMap count first last e f) where
+  abbrev m : Map
+  m = mapOf count first last
 
-  module _ {z : Shape} (q : z ≡ shapeOf id) (s p i : ℕ) where
-    abbrev m : Map
-    m = mapOf count first last
+  pub offset-small : f .offset ≤ 256
+  offset-small = rw (offset-is count first last z) (omega (arith, entry-fits count first last (z .ok) e (z .there)))
 
-    parts-is : z .parts ≡ partsOf (entry m e)
-    unfolding partsOf
-    parts-is = rw (q, ← f .id-is) refl
+  pub parts-small : f .parts < 16
+  unfolding partsOf
+  parts-small = rw (parts-is count first last z, ← row (entry m e .id) .parts) (mod-lt (rowNumber (entry m e .id) / 0x100000) (omega arith))
 
-    width-is : z .width ≡ widthOf (entry m e)
-    unfolding widthOf
-    width-is = rw (q, ← f .id-is) refl
+  pub width-small : f .width < 16
+  unfolding widthOf
+  width-small = rw (width-is count first last z, ← row (entry m e .id) .width) (mod-lt (rowNumber (entry m e .id) / 0x10000) (omega arith))
 
-    pub placing-10 : (isSet s && (ltb p (z .parts) && isLane i)) ≡ false → notPlaced (plain 10) ≡ placeOf count first last s e p i
-    placing-10 h = place-10 count first last s e p i (f .ok) (f .there) (rw (← parts-is) h)
+  module _ (s p i : ℕ) where
+    pub placing-10 : (isSet s && (ltb p (f .parts) && isLane i)) ≡ false → notPlaced (plain 10) ≡ placeOf count first last s e p i
+    placing-10 h = place-10 count first last s e p i (z .ok) (z .there) (rw (parts-is count first last z) at h)
 
-    module _ (h : (isSet s && (ltb p (z .parts) && isLane i)) ≡ true) where
-      pub placing-11 : (isStaged s && inRO) ≡ true → notPlaced (plain 11) ≡ placeOf count first last s e p i
-      placing-11 t = place-11 count first last s e p i (f .ok) (f .there) (rw (← parts-is) h) (rw (f .side) t)
+    module _ (h : (isSet s && (ltb p (f .parts) && isLane i)) ≡ true) where
+      pub placing-11 : (isStaged s && f .ro) ≡ true → notPlaced (plain 11) ≡ placeOf count first last s e p i
+      placing-11 t = place-11 count first last s e p i (z .ok) (z .there) (rw (parts-is count first last z) at h) (rw (side-is count first last z) at t)
 
       pub placing-at :
-          (isStaged s && inRO) ≡ false
-          → placedAt (offset + p * z .width + (i - 1) * z .width / 8) ((i - 1) * z .width % 8) ≡ placeOf count first last s e p i
-      placing-at t = rw (width-is, ← f .offset-is) (place-at count first last s e p i (f .ok) (f .there) (rw (← parts-is) h) (rw (f .side) t))
+          (isStaged s && f .ro) ≡ false
+          → placedAt (f .offset + p * f .width + (i - 1) * f .width / 8) ((i - 1) * f .width % 8) ≡ placeOf count first last s e p i
+      placing-at t = rw (width-is count first last z, offset-is count first last z) (place-at count first last s e p i (z .ok) (z .there) (rw (parts-is count first last z) at h) (rw (side-is count first last z) at t))

@@ -24,26 +24,20 @@ pub fn place(
 ) -> Placed
     ensures { λ r. ⌜ r ≡ placeOf count (now (rw .entry)) (now (ro .entry)) set entry part lane ⌝ }
 {
-    let found = find(count, rw, ro, entry);
+    // Place takes no bank: none is too small.
+    let found = find(count, rw, ro, 784, entry);
     match found {
         Found::Refused(r) => Placed::Refused(r),
-        Found::In {
-            ro: in_ro,
-            id,
-            offset,
-            codes: _,
-            step: _,
-        } => {
-            let shape = shape_of(id);
-            if !((set < 3) & ((part < shape.parts) & ((1 <= lane) & (lane <= 8)))) {
+        Found::In(f) => {
+            if !((set < 3) & ((part < f.parts) & ((1 <= lane) & (lane <= 8)))) {
                 return Placed::Refused(Refusal::Plain(10));
             }
-            if (set < 2) & in_ro {
+            if (set < 2) & f.ro {
                 return Placed::Refused(Refusal::Plain(11));
             }
-            let first = (lane - 1) * shape.width;
+            let first = (lane - 1) * f.width;
             Placed::At {
-                byte: offset + part * shape.width + first / 8,
+                byte: f.offset + part * f.width + first / 8,
                 bit: first % 8,
             }
         }

@@ -8,7 +8,7 @@ use Prim.Native.Nat.{ℕ, zero, suc, _≤_, _<_}
 use native.Mathlib.Omega.{arith}
 use native.Mathlib.Decide.{ℕ-discrete}
 use lib.ListN.{length, getD}
-use lib.Dec.{T, T-not, ltb, eqb, eqb→eq, ltb→lt, lt→ltb}
+use lib.Dec.{T, T-not, eqb, eqb→eq, ltb→lt, lt→ltb}
 use Rattle.rules.specs.Load.{Map}
 use Rattle.rules.specs.Place.{entry, partsOf, signedOf, widthOf, isRW}
 use Rattle.rules.specs.Accept.{fromBits}

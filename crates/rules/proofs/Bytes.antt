@@ -13,7 +13,7 @@ use borrow.Author.Tests.{eq-eqb, ne-eqb}
 use Rattle.rules.specs.Numbers.{cut}
 use Rattle.rules.specs.Table.{byteFrom}
 use Rattle.rules.specs.Load.{Map}
-use Rattle.rules.specs.Place.{entry, partsOf, widthOf, heldBy, laneByte, fieldByte, fieldBit}
+use Rattle.rules.specs.Place.{entry, widthOf, laneByte, fieldByte, fieldBit}
 use Rattle.rules.specs.Layout.{setStart}
 use Rattle.rules.specs.Bank.{Bank, getField}
 use Rattle.rules.proofs.Tests.{either, is-true, is-false, by-test₂}
@@ -21,7 +21,7 @@ use Rattle.rules.proofs.Sums.{sum-zero, sum-ext, sum-one}
 use Rattle.rules.proofs.Tile.{tile}
 use Rattle.rules.proofs.Lanes.{lane-byte-lt}
 use Rattle.rules.proofs.Good.{GoodMap}
-use Rattle.rules.proofs.Places.{Field}
+use Rattle.rules.proofs.Places.{Field, lane-field}
 use Rattle.rules.proofs.Cover.{covered, In, in-covered, field-in, field-covered, in-same, in-width, partAt, byteInPart, placed, byte-lt, part-lt}
 
 -- the bits of a number's lowest byte
@@ -33,9 +33,6 @@ cut-mod x t w h =
     ∙ field x w t
 
 module _ (m : Map) (s k : ℕ) (hs : s < 3) where
-  field-of : (e p j : ℕ) → e < heldBy m s → p < partsOf (entry m e) → j < 8 → Field m s e p (suc j)
-  field-of e p j he hp hj = record { set = hs; ent = he; part = hp; low = omega arith; top = omega arith }
-
   -- only the bits of fields in the byte count
   pub byte-ext :
       (f h : ℕ → ℕ → ℕ → ℕ)
@@ -45,7 +42,7 @@ module _ (m : Map) (s k : ℕ) (hs : s < 3) where
   byte-ext f h q =
       sum-ext _ _ _ λ e he. sum-ext _ _ _ λ p hp. sum-ext _ _ _ λ j hj.
       by-test₂ _≡_ (eqb (fieldByte (entry m e) p (suc j)) k) _ _ _ _
-      (λ y. ap (λ n. n * 2 ^ fieldBit (entry m e) (suc j)) (q e p (suc j) (field-of e p j he hp hj) (eqb→eq _ _ y)))
+      (λ y. ap (λ n. n * 2 ^ fieldBit (entry m e) (suc j)) (q e p (suc j) (lane-field m s hs e p j he hp hj) (eqb→eq _ _ y)))
       (λ _. refl)
 
   module _ (g : GoodMap m) (x : ℕ) where
@@ -63,7 +60,7 @@ module _ (m : Map) (s k : ℕ) (hs : s < 3) where
     unfolding byteFrom
     byte-gap nc =
         sum-zero _ _ λ e he. sum-zero _ _ λ p hp. sum-zero _ _ λ j hj.
-        term-zero e p j (λ q. T-not (covered m s k) nc (rw q at (field-covered m g (field-of e p j he hp hj))))
+        term-zero e p j (λ q. T-not (covered m s k) nc (rw q at (field-covered m g (lane-field m s hs e p j he hp hj))))
 
     module _ (e : ℕ) (h : In m s e k) where
       lane-term :
@@ -92,7 +89,7 @@ module _ (m : Map) (s k : ℕ) (hs : s < 3) where
       unfolding byteFrom
       byte-full =
           sum-one _ _ e (h .ent) (λ e′ he ne. sum-zero _ _ λ p hp. sum-zero _ _ λ j hj.
-          term-zero e′ p j (λ q. ne (in-same m g (rw q at (field-in m g (field-of e′ p j he hp hj))) h)))
+          term-zero e′ p j (λ q. ne (in-same m g (rw q at (field-in m g (lane-field m s hs e′ p j he hp hj))) h)))
           ∙ sum-one _ _ (partAt m g h) (part-lt m g h) (λ p hp ne. sum-zero _ _ λ j hj. term-zero e p j (λ q. ne (other p j hj q)))
           ∙ sum-ext 8 _ _ (λ j _. lane-term j)
           ∙ tile (widthOf (entry m e)) (in-width m g h) (byteInPart m g h) x (byte-lt m g h)

@@ -1,12 +1,12 @@
 -- A chain of checks, `refuse b n d`: how it goes on past a check, how it stops at one, and what it shows of an entry that comes out.
-use mathlib.Core.Path.{_≡_, refl, sym, ap}
-use mathlib.Core.Bool.{Bool, true, false, not}
+use mathlib.Core.Path.{_≡_, refl, ap}
+use mathlib.Core.Bool.{Bool, true, false}
 use mathlib.Core.List.{List}
 use Prim.Native.Nat.{ℕ, _+_, _-_, _*_, _≤_}
 use native.Mathlib.Omega.{arith}
 use lib.ListN.{length}
 use lib.Dec.{ltb, eqb}
-use borrow.Author.Tests.{ltb-false}
+use borrow.Author.Tests.{ltb-false, not-false}
 use Rattle.rules.specs.Words.{Entry, Decoded, decoded, failed, State}
 use Rattle.rules.specs.Parameter.{rowOf}
 use Rattle.rules.specs.Descriptor.{byteAt, highFirst, entryAt, mayStand, refuse, lengthChecks, contentChecks, decodeAt}
@@ -39,10 +39,6 @@ pub record Passed (ro : Bool) (a : ℕ) (s : List ℕ) (st : State) (e : Entry) 
 
 same-entry : (x y : Entry) → decoded x ≡ decoded y → y ≡ x
 same-entry x y h = cc
-
-not-false : (t : Bool) → not t ≡ false → t ≡ true
-not-false true h = refl
-not-false false h = sym h
 
 pub decode-passed : (ro : Bool) (a : ℕ) (s : List ℕ) (st : State) (e : Entry) → decodeAt ro a s st ≡ decoded e → Passed ro a s st e
 unfolding decodeAt lengthChecks contentChecks

@@ -51,7 +51,7 @@ by-row f g low high id = go (decLt id 19)
     go (yes l) = near l (f id) (g id) refl refl
     go (no l) = high id (omega arith)
 
-row-past : (id : ℕ) → 19 ≤ id → rowOf id ≡ space both
+pub row-past : (id : ℕ) → 19 ≤ id → rowOf id ≡ space both
 unfolding rowOf
 row-past id h = List·getD-eq-default rows (space both) h
 

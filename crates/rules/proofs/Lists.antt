@@ -1,4 +1,4 @@
--- DEMAND 3: so does every list of calls; from fresh on; and the relation shows what is asked.
+-- DEMAND 3: every list of calls keeps the relation of bank and table; from fresh on; and the relation shows what is asked.
 use mathlib.Core.Path.{_≡_, refl, sym, ap, ap₂, _∙_}
 use mathlib.Core.Logic.{_⊎_, inl, inr}
 use mathlib.Core.Bool.{Bool, true, false, not}

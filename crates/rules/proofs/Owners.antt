@@ -12,7 +12,7 @@ use Rattle.rules.specs.Place.{entry, partsOf, widthOf, heldBy, fieldByte
 use Rattle.rules.proofs.Tests.{and₃, is-true, from-true}
 use Rattle.rules.proofs.Lanes.{lanes-apart}
 use Rattle.rules.proofs.Good.{GoodMap}
-use Rattle.rules.proofs.Places.{Field, field-width, same-entry, same-part}
+use Rattle.rules.proofs.Places.{Field, lane-field, field-width, same-entry, same-part}
 
 first-some : (n : ℕ) (f : ℕ → Owned) (e p i : ℕ) → firstOwner n f ≡ ownedBy e p i → (k : ℕ) × (k < n) × (f k ≡ ownedBy e p i)
 unfolding firstOwner
@@ -95,9 +95,6 @@ module _ (m : Map) (g : GoodMap m) where
     abbrev found : ℕ → ℕ → ℕ → Owned
     found e p j = cond (covers (entry m e) p (suc j) k q) (ownedBy e p (suc j)) gap
 
-    field-here : (e p j : ℕ) → e < heldBy m s → p < partsOf (entry m e) → j < 8 → Field m s e p (suc j)
-    field-here e p j he hp hj = record { set = hs; ent = he; part = hp; low = omega arith; top = omega arith }
-
     -- the owner covers the bit
     found-covers : (e′ p′ j e p i : ℕ) → Field m s e′ p′ (suc j) → found e′ p′ j ≡ ownedBy e p i → Field m s e p i × T (covers (entry m e) p i k q)
     found-covers e′ p′ j e p i f h = go (covers (entry m e′) p′ (suc j) k q) refl h
@@ -116,7 +113,7 @@ module _ (m : Map) (g : GoodMap m) where
         let (e′, he, h₁) = first-some (heldBy m s) _ e p i h in
         let (p′, hp, h₂) = first-some (partsOf (entry m e′)) _ e p i h₁ in
         let (j, hj, h₃) = first-some 8 _ e p i h₂ in
-        found-covers e′ p′ j e p i (field-here e′ p′ j he hp hj) h₃
+        found-covers e′ p′ j e p i (lane-field m s hs e′ p′ j he hp hj) h₃
 
     -- the field that covers the bit is its owner
     module _ (e p i : ℕ) (f : Field m s e p i) (c : T (covers (entry m e) p i k q)) where
@@ -126,7 +123,7 @@ module _ (m : Map) (g : GoodMap m) where
           go : (x : Bool) → covers (entry m e′) p′ (suc j) k q ≡ x → Only e p i (cond x (ownedBy e′ p′ (suc j)) gap)
           go false y = inl refl
           go true y =
-              let (a, b, d) = covers-same f (field-here e′ p′ j he hp hj) (covers-says c) (covers-says (from-true y)) in
+              let (a, b, d) = covers-same f (lane-field m s hs e′ p′ j he hp hj) (covers-says c) (covers-says (from-true y)) in
               inr (rw (a, b, d))
 
       lane-found : (j : ℕ) → suc j ≡ i → found e p j ≡ ownedBy e p i
@@ -145,7 +142,7 @@ module _ (m : Map) (g : GoodMap m) where
     unfolding ownerOf
     owner-none h =
         first-gap (heldBy m s) _ λ e he. first-gap (partsOf (entry m e)) _ λ p hp. first-gap 8 _ λ j hj.
-        none (covers (entry m e) p (suc j) k q) (ownedBy e p (suc j)) (h e p (suc j) (field-here e p j he hp hj))
+        none (covers (entry m e) p (suc j) k q) (ownedBy e p (suc j)) (h e p (suc j) (lane-field m s hs e p j he hp hj))
       where
         none : (c : Bool) (x : Owned) → ¬ (T c) → cond c x gap ≡ gap
         none true x n = absurd (n tt)

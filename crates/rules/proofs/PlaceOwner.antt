@@ -8,9 +8,9 @@ use native.Mathlib.Omega.{arith}
 use lib.ListN.{length, getD, take}
 use lib.Dec.{T, ltb, leb, ltb→lt, lt→ltb, le→leb}
 use borrow.Author.Tests.{lt-ltb}
-use Rattle.rules.specs.Words.{plain, Entry, accepted, read, placedAt, ownedBy, gap, notOwned}
+use Rattle.rules.specs.Words.{plain, Entry, read, placedAt, ownedBy, gap, notOwned}
 use Rattle.rules.specs.Load.{Map, mapOf, total}
-use Rattle.rules.specs.Place.{nothing, entry, partsOf, widthOf, isSet, isStaged, isRW, heldBy, holds, lengthOf, fieldByte, fieldBit, covers, ownerOf}
+use Rattle.rules.specs.Place.{nothing, entry, partsOf, widthOf, isSet, isStaged, isRW, heldBy, lengthOf, fieldByte, fieldBit, covers, ownerOf}
 use Rattle.rules.specs.Refuse.{Verdict, passes, refuses, refuseIf, firstOf, exists, misdirected, unaccepted, judge}
 use Rattle.rules.specs.Beside.{placed, placeOf, owned, isBit, ownerCall}
 use Rattle.rules.specs.Demands.{Accepted, PlaceCovers, OwnerAndPlace}

@@ -2,7 +2,7 @@
 use mathlib.Core.Path.{_≡_, sym, ap, _∙_}
 use mathlib.Core.Logic.{_⊎_, inl, inr, _≢_}
 use mathlib.Core.Bool.{_&&_, not}
-use Prim.Native.Nat.{ℕ, _+_, _*_, _/_, _≤_, _<_}
+use Prim.Native.Nat.{ℕ, suc, _+_, _*_, _/_, _≤_, _<_}
 use native.Mathlib.Omega.{arith}
 use native.Mathlib.Decide.{ℕ-discrete, decLt}
 use lib.Arith.{digits-lt, digits-div}
@@ -37,6 +37,10 @@ field-holds {m} {s} {e} {p} {i} f =
     (both-true (ltb p (partsOf (entry m e))) _ (lt→ltb _ _ (f .part)) (both-true (leb 1 i) _ (le→leb _ _ (f .low)) (le→leb _ _ (f .top)))))
 
 -- an entry's field, in a set that holds the entry
+-- a lane counted from 0
+pub lane-field : (m : Map) (s : ℕ) → s < 3 → (e p j : ℕ) → e < heldBy m s → p < partsOf (entry m e) → j < 8 → Field m s e p (suc j)
+lane-field m s hs e p j he hp hj = record { set = hs; ent = he; part = hp; low = omega arith; top = omega arith }
+
 pub field-of : (m : Map) (s e p i : ℕ) → s < 3 → e < heldBy m s → T (hasField m e p i) → Field m s e p i
 field-of m s e p i hs he h =
     let (h₁, h₂, h₃, h₄) = and₄ (ltb e (length (m .entries))) (ltb p (partsOf (entry m e))) (leb 1 i) (leb i 8) h in

@@ -1,8 +1,8 @@
 -- The reader on a string that the load accepts: from 0 on it takes the walk's entries, one directly after the other, and then the end.
 use mathlib.Core.Path.{_≡_, refl, sym, ap, _∙_}
 use mathlib.Core.Bool.{Bool, true, false}
-use mathlib.Core.List.{List, [], _∷_}
-use Prim.Native.Nat.{ℕ, zero, suc, _+_, _<_}
+use mathlib.Core.List.{List, []}
+use Prim.Native.Nat.{ℕ, suc, _+_, _<_}
 use native.Mathlib.Omega.{arith}
 use lib.ListN.{length, getD, take}
 use lib.Dec.{T, leb}
@@ -15,6 +15,7 @@ use Rattle.rules.specs.Demands.{Accepted, lengths}
 use Rattle.rules.specs.Reader.{takenOf, takeOf, movedTo}
 use Rattle.rules.proofs.Tests.{and₄, is-true}
 use Rattle.rules.proofs.Checks.{pass, passed, decode-passed}
+use Rattle.rules.proofs.EntryHeads.{lengths-next}
 use Rattle.rules.proofs.Fills.{Stands, Filled, filled-nth, stands-start, rw-filled, ro-filled}
 use Rattle.rules.proofs.Walks.{load-accepted}
 
@@ -23,11 +24,6 @@ pub record Reads (count : ℕ) (s : List ℕ) (l : List Entry) : Type 0 where
   pub takes : (n : ℕ) → n < length l → takeOf count s (lengths (take n l)) ≡ taken (getD l n nothing .start) (getD l n nothing .length)
   pub moves : (n : ℕ) → n < length l → movedTo (takeOf count s (lengths (take n l))) (lengths (take n l)) ≡ lengths (take (suc n) l)
   pub ends : takeOf count s (length s) ≡ noMore
-
-lengths-take : (l : List Entry) (n : ℕ) → n < length l → lengths (take (suc n) l) ≡ lengths (take n l) + getD l n nothing .length
-lengths-take [] n h = absurd (omega arith)
-lengths-take (e ∷ l) zero h = omega arith
-lengths-take (e ∷ l) (suc n) h = omega (arith, lengths-take l n (omega arith))
 
 module _ (count : ℕ) (s : List ℕ) (fits : sized count s [] ≡ true) where
   -- an entry that passes all checks passes the reader's
@@ -57,7 +53,7 @@ module _ (count : ℕ) (s : List ℕ) (fits : sized count s [] ≡ true) where
   filled-reads ro l g =
       record {
         takes = λ n h. take-stands ro (filled-nth ro (maskBytes count) s l n g h);
-        moves = λ n h. take-moves ro (filled-nth ro (maskBytes count) s l n g h) ∙ sym (lengths-take l n h);
+        moves = λ n h. take-moves ro (filled-nth ro (maskBytes count) s l n g h) ∙ sym (lengths-next l n h);
         ends = take-end;
       }
 

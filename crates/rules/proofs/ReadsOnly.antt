@@ -14,7 +14,7 @@ use Rattle.rules.specs.Load.{Map, mapOf}
 use Rattle.rules.specs.Place.{entry, partsOf, widthOf, signedOf, isRW}
 use Rattle.rules.specs.Accept.{accepts, fromBits}
 use Rattle.rules.specs.Layout.{bankSize, appSelAt}
-use Rattle.rules.specs.Refuse.{Verdict, passes, firstOf, judge, bankOrder, chooses}
+use Rattle.rules.specs.Refuse.{Verdict, firstOf, judge, bankOrder, chooses}
 use Rattle.rules.specs.Bank.{Bank, fieldAt, getField, putField, numberIn, withNumber, bankLacksApp, bankCopies, bankHoldsBad, bankPlan, applyBank, bankDoes, bankStep}
 use Rattle.rules.proofs.Tests.{and₃, by-test₂, either, is-false}
 use Rattle.rules.proofs.Any.{any-ext}

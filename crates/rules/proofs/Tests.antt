@@ -60,6 +60,10 @@ pub or-cases : (a b : Bool) → T (a || b) → T a ⊎ T b
 or-cases true b h = inl tt
 or-cases false b h = inr h
 
+pub or-yes : (a : Bool) → (a || true) ≡ true
+or-yes true = refl
+or-yes false = refl
+
 pub or-no : (a b : Bool) → (a || b) ≡ false → (a ≡ false) × (b ≡ false)
 or-no true b h = let o : _≡_ {A = ℕ} 0 1 = cc in absurd (omega arith)
 or-no false b h = (refl, h)

@@ -73,38 +73,38 @@ listed c =
     let g = u .before .before .before .before .before .before .before .args in
     apply-listed (g .count) (now (g .rw)) (now (g .ro)) (g .set) (g .lanes) (now (g .bank)) (opened u)
 
-wanted-requires : tie.Need-wanted-requires
-wanted-requires c κs = asked (c .before)
-
 lowest-lacking-requires : tie.Need-lowest-lacking-requires
-lowest-lacking-requires c κs = asked (c .before .before .before)
-
-lowest-bad-requires : tie.Need-lowest-bad-requires
-lowest-bad-requires c κs =
-    let w = c .before .before .before .before .before in
-    let e = w .before .before in
-    ((record { classes-are = refl; rows-are = refl }, listed e), (asked e, w .wanted .ensures))
+lowest-lacking-requires c κs = asked (c .before)
 
 same-length : tie.Need-same-length
 same-length c = search needs
 
 returns-3 : tie.Need-returns-3
 returns-3 c =
-    let k = c .before .before .before .before .before in
-    let e = k .before .before .before .before in
+    let k = c .before in
+    let e = k .before .before in
     let u = e .before .before in
     let g = u .before .before .before .before .before .before .before .args in
     meets (apply-13 (g .count) (now (g .rw)) (now (g .ro)) (g .set) (g .lanes) (now (g .bank)) (opened u) (there (e .before)) (may e) (k .lowest-lacking .ensures) (c .if3 .taken)) refl refl
+
+wanted-requires : tie.Need-wanted-requires
+wanted-requires c κs = asked (c .before .before .before .before)
+
+lowest-bad-requires : tie.Need-lowest-bad-requires
+lowest-bad-requires c κs =
+    let w = c .before .before .before .before in
+    let e = w .before .before .before .before .before in
+    ((record { classes-are = refl; rows-are = refl; values-are = refl }, listed e), (asked e, w .wanted .ensures))
 
 same-length-2 : tie.Need-same-length-2
 same-length-2 c = search needs
 
 returns-4 : tie.Need-returns-4
 returns-4 c =
-    let x = c .before in
-    let y = x .before in
-    let k = y .before .before .before .before in
-    let e = k .before .before .before .before in
+    let y = c .before in
+    let x = y .before .before .before .before .before .before .before in
+    let k = x .before in
+    let e = k .before .before in
     let u = e .before .before in
     let g = u .before .before .before .before .before .before .before .args in
     meets
@@ -115,12 +115,12 @@ returns-4 c =
 
 copy-all-requires : tie.Need-copy-all-requires
 copy-all-requires c κs =
-    let x = c .before .before .before .before in
-    let k = x .before .before .before .before .before in
-    let w = k .before .before in
-    let e = w .before .before in
+    let w = c .before .before .before .before .before .before .before .before .before .before in
+    let x = w .before .before in
+    let k = x .before in
+    let e = k .before .before in
     let q : k .lowest-lacking .result ≡ 9 = x .if3 .left in
-    ((record { classes-are = refl; rows-are = refl }, listed e), (asked e, w .wanted .ensures, λ i l h. k .lowest-lacking .ensures .below i l (omega (arith, q))))
+    ((record { classes-are = refl; rows-are = refl; values-are = refl }, listed e), (asked e, w .wanted .ensures, λ i l h. k .lowest-lacking .ensures .below i l (omega (arith, q))))
 
 returns-5 : tie.Need-returns-5
 returns-5 c =
@@ -134,11 +134,11 @@ same-length-3 c = search needs
 returns-6 : tie.Need-returns-6
 returns-6 c =
     let l = c .before .before in
-    let z = l .before .before .before .before in
-    let x = z .before in
-    let y = x .before in
-    let k = y .before .before .before .before in
-    let e = k .before .before .before .before in
+    let z = l .before .before .before .before .before in
+    let y = z .before in
+    let x = y .before .before .before .before .before .before .before in
+    let k = x .before in
+    let e = k .before .before in
     let u = e .before .before in
     let g = u .before .before .before .before .before .before .before .args in
     meets
@@ -156,11 +156,11 @@ apply-spec =
     enum-known-g-2
     returns
     returns-2
-    wanted-requires
     lowest-lacking-requires
-    lowest-bad-requires
     same-length
     returns-3
+    wanted-requires
+    lowest-bad-requires
     same-length-2
     returns-4
     copy-all-requires

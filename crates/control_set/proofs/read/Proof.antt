@@ -3,54 +3,58 @@ use borrow.Author.Needs.{needs}
 use mathlib.Core.Path.{_≡_, refl, ap, _∙_}
 use mathlib.Core.Bool.{true, false}
 use lib.ListN.{length}
-use native.Mathlib.Omega.{arith}
+use mir.Syntax.{w64}
+use mir.Val.{toZ, ofZ}
 use mir.Facts.{toZ-ofZ}
 use denote.Ref.{now}
 use borrow.Author.Tests.{not-true, not-false}
 use Rattle.rules.specs.declared.Call.{Call}
 use Rattle.rules.specs.declared.Answer.{Answer}
-use Rattle.rules.specs.Accept.{fromBits}
 use Rattle.rules.specs.Load.{mapOf}
 use Rattle.rules.specs.Refuse.{exists, misdirected, unaccepted}
 use Rattle.rules.specs.Bank.{bankPlan, bankDoes}
 use Rattle.rules.proofs.Steps.{meets}
 use Rattle.rules.proofs.Places.{Field}
-use Rattle.control_set.specs.Gate.{Entered}
 use Rattle.control_set.proofs.Ways.{call-10, call-11, call-done}
-use Rattle.control_set.proofs.Spots.{spot-room, bits-at-lt}
-use Rattle.control_set.proofs.Enters.{entered-opened, call-unfound, no-read, read-tested, read-directed, read-there, spot-there, number-there}
+use Rattle.control_set.proofs.Enters.{Entered, EntryGated, found-gated, entered-opened, call-unfound, no-read, read-tested, read-directed, read-there, spot-there, number-there}
 use Rattle.control_set.proofs.read.Statement.{statement}
 use Rattle.control_set.proofs.read.Tie as tie
 
--- the entry that is found, in what the pattern binds
+-- what the search gives, and the entry that is found, in what the pattern binds
+gated : (c : tie.After-find) → let g = c .before .before .before .before .args in EntryGated (g .count) (now (g .rw)) (now (g .ro)) (length (now (g .bank))) (g .entry) (c .find .result)
+gated c = let g = c .before .before .before .before .args in found-gated (g .count) (now (g .rw)) (now (g .ro)) (length (now (g .bank))) (g .entry) (c .find .result) (c .find .ensures)
+
 entered : (c : tie.After-known-told) →
     let g = c .before .before .before .before .before .before .before .args in
-    let x = c .before .found .given .0 in
-    Entered (g .count) (now (g .rw)) (now (g .ro)) (length (now (g .bank))) (g .entry) (x .0) (x .1 .0) (x .1 .1 .0) (x .1 .1 .1 .0) (x .1 .1 .1 .1 .0)
-entered c = rw (c .before .found .given .1) at (c .before .before .before .admit-entry .ensures)
+    Entered (g .count) (now (g .rw)) (now (g .ro)) (length (now (g .bank))) (g .entry) (c .before .found .given .0 .0)
+entered c = rw (c .before .found .given .1) at (gated (c .before .before .before))
 
 -- what is passed: 10 and 11
-there : (c : tie.Else1) → let g = c .before .before .before .before .before .before .before .before .before .before .args in exists (mapOf (g .count) (now (g .rw)) (now (g .ro))) (Call.Read (g .set) (g .entry) (g .part) (g .lane)) ≡ true
+there : (c : tie.Else1) → let g = c .before .before .before .before .before .before .before .before .before .args in exists (mapOf (g .count) (now (g .rw)) (now (g .ro))) (Call.Read (g .set) (g .entry) (g .part) (g .lane)) ≡ true
 there c =
     let k = c .before .before in
-    let g = k .before .before .before .before .before .before .before .before .args in
-    read-tested (g .count) (now (g .rw)) (now (g .ro)) (now (g .bank)) (entered (k .before)) (k .shape-of .ensures .0) (g .set) (g .part) (g .lane) ∙ not-false _ (c .if1 .left)
+    let g = k .before .before .before .before .before .before .before .args in
+    read-tested (g .count) (now (g .rw)) (now (g .ro)) (now (g .bank)) (entered k) (g .set) (g .part) (g .lane) ∙ not-false _ (c .if1 .left)
 
 may : (c : tie.Else2) → let g = c .before .before .before .before .before .before .before .before .before .before .before .args in misdirected (mapOf (g .count) (now (g .rw)) (now (g .ro))) (Call.Read (g .set) (g .entry) (g .part) (g .lane)) ≡ false
 may c =
-    let k = c .before .before .before in
-    let g = k .before .before .before .before .before .before .before .before .args in
-    read-directed (g .count) (now (g .rw)) (now (g .ro)) (entered (k .before)) (g .set) (g .part) (g .lane) ∙ c .if2 .left
+    let k = c .before .before .before .before in
+    let g = k .before .before .before .before .before .before .before .args in
+    read-directed (g .count) (now (g .rw)) (now (g .ro)) (entered k) (g .set) (g .part) (g .lane) ∙ c .if2 .left
 
 -- the field
 field : (c : tie.Else2) → let g = c .before .before .before .before .before .before .before .before .before .before .before .args in Field (mapOf (g .count) (now (g .rw)) (now (g .ro))) (g .set) (g .entry) (g .part) (g .lane)
 field c =
-    let k = c .before .before .before in
-    let g = k .before .before .before .before .before .before .before .before .args in
-    read-there (g .count) (now (g .rw)) (now (g .ro)) (now (g .bank)) (entered (k .before)) (k .shape-of .ensures .0) (g .set) (g .part) (g .lane) (not-false _ (c .before .if1 .left)) (c .if2 .left)
+    let k = c .before .before .before .before in
+    let g = k .before .before .before .before .before .before .before .args in
+    read-there (g .count) (now (g .rw)) (now (g .ro)) (now (g .bank)) (entered k) (g .set) (g .part) (g .lane) (not-false _ (c .before .before .if1 .left)) (c .if2 .left)
 
-admit-entry-requires : tie.Need-admit-entry-requires
-admit-entry-requires c κs = search needs
+-- the most that it holds, as the machine hands it on
+most : (c : tie.After-struct-told) → let x = c .before .before .before .before .before .before .before .found .given .0 .0 in toZ w64 (ofZ w64 (x .most)) ≡ x .most
+most c = search needs
+
+find-requires : tie.Need-find-requires
+find-requires c κs = search needs
 
 enum-known-found : tie.Need-enum-known-found
 enum-known-found c = search needs
@@ -65,66 +69,54 @@ returns : tie.Need-returns
 returns c =
     let k = c .before .before .before in
     let g = k .before .before .before .before .args in
-    meets (call-unfound (g .count) (now (g .rw)) (now (g .ro)) (now (g .bank)) (g .entry) (Call.Read (g .set) (g .entry) (g .part) (g .lane)) (λ l. no-read (g .count) (now (g .rw)) (now (g .ro)) (now (g .bank)) (g .entry) l (g .set) (g .part) (g .lane)) (c .before .enum-told .given .1) (k .admit-entry .ensures)) (c .refused .ensures) refl .0
-
-shape-of-requires : tie.Need-shape-of-requires
-shape-of-requires c κs = search needs
+    meets (call-unfound (g .count) (now (g .rw)) (now (g .ro)) (now (g .bank)) (g .entry) (Call.Read (g .set) (g .entry) (g .part) (g .lane)) (λ l. no-read (g .count) (now (g .rw)) (now (g .ro)) (now (g .bank)) (g .entry) l (g .set) (g .part) (g .lane)) (c .before .enum-told .given .1) (gated k)) (c .refused .ensures) refl .0
 
 returns-2 : tie.Need-returns-2
 returns-2 c =
     let k = c .before .before in
-    let g = k .before .before .before .before .before .before .before .before .args in
-    let t = entered (k .before) in
-    meets (call-10 (g .count) (now (g .rw)) (now (g .ro)) (Call.Read (g .set) (g .entry) (g .part) (g .lane)) (now (g .bank)) (entered-opened (g .count) (now (g .rw)) (now (g .ro)) (now (g .bank)) t) (read-tested (g .count) (now (g .rw)) (now (g .ro)) (now (g .bank)) t (k .shape-of .ensures .0) (g .set) (g .part) (g .lane) ∙ not-true _ (c .if1 .taken))) refl refl .0
+    let g = k .before .before .before .before .before .before .before .args in
+    let t = entered k in
+    meets (call-10 (g .count) (now (g .rw)) (now (g .ro)) (Call.Read (g .set) (g .entry) (g .part) (g .lane)) (now (g .bank)) (entered-opened (g .count) (now (g .rw)) (now (g .ro)) (now (g .bank)) t) (read-tested (g .count) (now (g .rw)) (now (g .ro)) (now (g .bank)) t (g .set) (g .part) (g .lane) ∙ not-true _ (c .if1 .taken))) refl refl .0
 
 returns-3 : tie.Need-returns-3
 returns-3 c =
-    let k = c .before .before .before in
-    let g = k .before .before .before .before .before .before .before .before .args in
-    let t = entered (k .before) in
-    meets (call-11 (g .count) (now (g .rw)) (now (g .ro)) (Call.Read (g .set) (g .entry) (g .part) (g .lane)) (now (g .bank)) (entered-opened (g .count) (now (g .rw)) (now (g .ro)) (now (g .bank)) t) (there (c .before)) (read-directed (g .count) (now (g .rw)) (now (g .ro)) t (g .set) (g .part) (g .lane) ∙ c .if2 .taken)) refl refl .0
+    let k = c .before .before .before .before in
+    let g = k .before .before .before .before .before .before .before .args in
+    let t = entered k in
+    meets (call-11 (g .count) (now (g .rw)) (now (g .ro)) (Call.Read (g .set) (g .entry) (g .part) (g .lane)) (now (g .bank)) (entered-opened (g .count) (now (g .rw)) (now (g .ro)) (now (g .bank)) t) (there (c .before .before)) (read-directed (g .count) (now (g .rw)) (now (g .ro)) t (g .set) (g .part) (g .lane) ∙ c .if2 .taken)) refl refl .0
 
 read-field-requires : tie.Need-read-field-requires
 read-field-requires c κs =
-    let k = c .before .before .before in
-    let g = k .before .before .before .before .before .before .before .before .args in
-    spot-there (g .count) (now (g .rw)) (now (g .ro)) (now (g .bank)) (entered (k .before)) (k .shape-of .ensures .0) (field c)
-
-signed-requires : tie.Need-signed-requires
-signed-requires c κs = search needs
+    let k = c .before .before .before .before in
+    let g = k .before .before .before .before .before .before .before .args in
+    spot-there (g .count) (now (g .rw)) (now (g .ro)) (now (g .bank)) (entered k) (field c)
 
 number-of-requires : tie.Need-number-of-requires
-number-of-requires c κs =
-    let e = c .before .before in
-    let k = e .before .before .before in
-    let g = k .before .before .before .before .before .before .before .before .args in
-    let r = spot-room (spot-there (g .count) (now (g .rw)) (now (g .ro)) (now (g .bank)) (entered (k .before)) (k .shape-of .ensures .0) (field e)) in
-    (r .some, omega (arith, r .room), rw (c .before .read-field .ensures) (bits-at-lt (now (g .bank)) _ _ _ _ _))
+number-of-requires c κs = search needs
 
 returns-4 : tie.Need-returns-4
 unfolding unaccepted bankPlan bankDoes
 returns-4 c =
     let f = c .before .before in
     let e = f .before in
-    let k = e .before .before .before in
-    let g = k .before .before .before .before .before .before .before .before .args in
-    let t = entered (k .before) in
-    let n = toZ-ofZ (record { sfits = c .number-of .ok }) ∙ c .number-of .ensures ∙ ap (fromBits _ _) (f .read-field .ensures) ∙ number-there (g .count) (now (g .rw)) (now (g .ro)) (now (g .bank)) t (k .shape-of .ensures .0) (g .set) (g .part) (g .lane) _ (c .before .signed .ensures) in
-    meets (call-done (g .count) (now (g .rw)) (now (g .ro)) (Call.Read (g .set) (g .entry) (g .part) (g .lane)) (now (g .bank)) (entered-opened (g .count) (now (g .rw)) (now (g .ro)) (now (g .bank)) t) (there (e .before)) (may e) refl refl) (ap Answer.Number n) refl .0
+    let k = e .before .before .before .before in
+    let g = k .before .before .before .before .before .before .before .args in
+    let t = entered k in
+    let x = rw (most (c .before), f .read-field .ensures) at (c .number-of .ensures) in
+    let n = toZ-ofZ (record { sfits = c .number-of .ok }) ∙ x ∙ number-there (g .count) (now (g .rw)) (now (g .ro)) (now (g .bank)) t (field e) in
+    meets (call-done (g .count) (now (g .rw)) (now (g .ro)) (Call.Read (g .set) (g .entry) (g .part) (g .lane)) (now (g .bank)) (entered-opened (g .count) (now (g .rw)) (now (g .ro)) (now (g .bank)) t) (there (e .before .before)) (may e) refl refl) (ap Answer.Number n) refl .0
 
 pub read-spec : {M : Type 1} → statement M
 read-spec =
     tie.close
     (tie.spec
-    admit-entry-requires
+    find-requires
     enum-known-found
     enum-told
     refused-requires
     returns
-    shape-of-requires
     returns-2
     returns-3
     read-field-requires
-    signed-requires
     number-of-requires
     returns-4)

@@ -3,6 +3,7 @@ use borrow.Author.Needs.{needs}
 use mathlib.Core.Path.{_≡_, ap, _∙_}
 use mathlib.Core.Bool.{true}
 use native.Mathlib.Omega.{arith}
+use lib.IntN.{pos}
 use lib.ListN.{length}
 use mir.Syntax.{w64}
 use mir.Val.{toZ, ofZ}
@@ -10,31 +11,33 @@ use mir.Facts.{toZ-ofZ}
 use denote.Ref.{now}
 use borrow.Author.Tests.{not-true, not-false}
 use Rattle.rules.specs.declared.Answer.{Answer}
-use Rattle.rules.specs.Accept.{fromBits}
 use Rattle.control_set.specs.Field.{bitsAt}
-use Rattle.control_set.specs.Gate.{Entered}
+use Rattle.control_set.specs.Values.{numberBy}
 use Rattle.control_set.proofs.Spots.{bits-at-lt}
 use Rattle.control_set.proofs.Signs.{number-bits}
-use Rattle.control_set.proofs.Enters.{weight-unfound, weight-10, weight-spot, weight-is}
+use Rattle.control_set.proofs.Values.{number-weighed}
+use Rattle.control_set.proofs.Enters.{Entered, EntryGated, found-gated, weight-unfound, weight-10, weight-spot, weight-is}
 use Rattle.control_set.proofs.weight.Statement.{statement}
 use Rattle.control_set.proofs.weight.Tie as tie
 
--- the entry that is found, in what the pattern binds
+-- what the search gives, and the entry that is found, in what the pattern binds
+gated : (c : tie.After-find) → let g = c .before .before .before .before .args in EntryGated (g .count) (now (g .rw)) (now (g .ro)) (length (now (g .bank))) (g .entry) (c .find .result)
+gated c = let g = c .before .before .before .before .args in found-gated (g .count) (now (g .rw)) (now (g .ro)) (length (now (g .bank))) (g .entry) (c .find .result) (c .find .ensures)
+
 entered : (c : tie.After-known-told) →
     let g = c .before .before .before .before .before .before .before .args in
-    let x = c .before .found .given .0 in
-    Entered (g .count) (now (g .rw)) (now (g .ro)) (length (now (g .bank))) (g .entry) (x .0) (x .1 .0) (x .1 .1 .0) (x .1 .1 .1 .0) (x .1 .1 .1 .1 .0)
-entered c = rw (c .before .found .given .1) at (c .before .before .before .admit-entry .ensures)
+    Entered (g .count) (now (g .rw)) (now (g .ro)) (length (now (g .bank))) (g .entry) (c .before .found .given .0 .0)
+entered c = rw (c .before .found .given .1) at (gated (c .before .before .before))
 
 -- the number of its bits, as the machine hands it on
 numbered : (c : tie.After-number-of) →
-    let g = c .before .before .before .before .before .before .before .before .before .before .args in
-    let x = c .before .before .before .before .found .given .0 in
-    toZ w64 (ofZ w64 (c .number-of .result)) ≡ fromBits true 8 (bitsAt (now (g .bank)) 2 (x .1 .1 .0) 0 8 (g .lane))
-numbered c = toZ-ofZ (record { sfits = c .number-of .ok }) ∙ c .number-of .ensures ∙ ap (fromBits true 8) (c .before .read-field .ensures)
+    let k = c .before .before .before .before in
+    let g = k .before .before .before .before .before .before .before .args in
+    toZ w64 (ofZ w64 (c .number-of .result)) ≡ numberBy (pos 127) (bitsAt (now (g .bank)) 2 (k .before .found .given .0 .0 .offset) 0 8 (g .lane))
+numbered c = toZ-ofZ (record { sfits = c .number-of .ok }) ∙ c .number-of .ensures ∙ ap (numberBy (pos 127)) (c .before .read-field .ensures)
 
-admit-entry-requires : tie.Need-admit-entry-requires
-admit-entry-requires c κs = search needs
+find-requires : tie.Need-find-requires
+find-requires c κs = search needs
 
 enum-known-found : tie.Need-enum-known-found
 enum-known-found c = search needs
@@ -49,42 +52,43 @@ returns : tie.Need-returns
 returns c =
     let k = c .before .before .before in
     let g = k .before .before .before .before .args in
-    c .refused .ensures ∙ weight-unfound (g .count) (now (g .rw)) (now (g .ro)) (now (g .bank)) (g .entry) (g .lane) (c .before .enum-told .given .1) (k .admit-entry .ensures)
+    c .refused .ensures ∙ weight-unfound (g .count) (now (g .rw)) (now (g .ro)) (now (g .bank)) (g .entry) (g .lane) (c .before .enum-told .given .1) (gated k)
 
 returns-2 : tie.Need-returns-2
 returns-2 c =
-    let t = c .before in
-    let g = t .before .before .before .before .before .before .before .args in
-    weight-10 (g .count) (now (g .rw)) (now (g .ro)) (now (g .bank)) (g .entry) (g .lane) (entered t) (not-true _ (c .if1 .taken))
+    let k = c .before .before in
+    let g = k .before .before .before .before .before .before .before .args in
+    weight-10 (g .count) (now (g .rw)) (now (g .ro)) (now (g .bank)) (g .entry) (g .lane) (entered k) (not-true _ (c .if1 .taken))
 
 read-field-requires : tie.Need-read-field-requires
 read-field-requires c κs =
-    let t = c .before in
-    let g = t .before .before .before .before .before .before .before .args in
-    weight-spot (g .count) (now (g .rw)) (now (g .ro)) (now (g .bank)) (g .entry) (g .lane) (entered t) (not-false _ (c .if1 .left))
+    let k = c .before .before in
+    let g = k .before .before .before .before .before .before .before .args in
+    weight-spot (g .count) (now (g .rw)) (now (g .ro)) (now (g .bank)) (g .entry) (g .lane) (entered k) (not-false _ (c .if1 .left))
 
 number-of-requires : tie.Need-number-of-requires
 number-of-requires c κs = search needs
 
 weight-of-requires : tie.Need-weight-of-requires
 weight-of-requires c κs =
-    let g = c .before .before .before .before .before .before .before .before .before .before .args in
-    let x = c .before .before .before .before .found .given .0 in
-    rw (numbered c) (number-bits true 8 _ (omega arith) (bits-at-lt (now (g .bank)) 2 (x .1 .1 .0) 0 8 (g .lane)))
+    let k = c .before .before .before .before in
+    let g = k .before .before .before .before .before .before .before .args in
+    let n = bits-at-lt (now (g .bank)) 2 (k .before .found .given .0 .0 .offset) 0 8 (g .lane) in
+    rw (numbered c, number-weighed _ n) (number-bits true 8 _ (omega arith) n)
 
 returns-3 : tie.Need-returns-3
 returns-3 c =
     let e = c .before .before .before in
-    let t = e .before in
-    let g = t .before .before .before .before .before .before .before .args in
+    let k = e .before .before in
+    let g = k .before .before .before .before .before .before .before .args in
     let w = rw (numbered (c .before)) at (c .weight-of .ensures) in
-    ap Answer.Number (toZ-ofZ (record { sfits = c .weight-of .ok }) ∙ w) ∙ weight-is (g .count) (now (g .rw)) (now (g .ro)) (now (g .bank)) (g .entry) (g .lane) (entered t) (not-false _ (e .if1 .left))
+    ap Answer.Number (toZ-ofZ (record { sfits = c .weight-of .ok }) ∙ w) ∙ weight-is (g .count) (now (g .rw)) (now (g .ro)) (now (g .bank)) (g .entry) (g .lane) (entered k) (not-false _ (e .if1 .left))
 
 pub weight-spec : {M : Type 1} → statement M
 weight-spec =
     tie.close
     (tie.spec
-    admit-entry-requires
+    find-requires
     enum-known-found
     enum-told
     refused-requires

@@ -1,7 +1,7 @@
 -- `least_length` meets its contract.
 use mathlib.Core.Path.{refl}
 use borrow.Author.Needs.{needs}
-use Rattle.descriptor.proofs.Table.{row}
+use Rattle.descriptor.proofs.TableRows.{row}
 use Rattle.descriptor.proofs.least_length.Statement.{statement}
 use Rattle.descriptor.proofs.least_length.Tie as tie
 

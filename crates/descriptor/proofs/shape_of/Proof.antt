@@ -1,7 +1,8 @@
 -- `shape_of` meets its contract.
 use mathlib.Core.Path.{refl}
 use native.Mathlib.Omega.{arith}
-use Rattle.descriptor.proofs.Table.{row, row-none}
+use Rattle.rules.proofs.EntryRules.{row-past}
+use Rattle.descriptor.proofs.TableRows.{row}
 use borrow.Author.Needs.{needs}
 use Rattle.descriptor.proofs.shape_of.Statement.{statement}
 use Rattle.descriptor.proofs.shape_of.Tie as tie
@@ -12,18 +13,17 @@ cast-row-of c = search needs
 row-of-requires : tie.Need-row-of-requires
 row-of-requires c κs = search needs
 
-cast-t13 : tie.Need-cast-t13
-cast-t13 c = search needs
-
-cast-t16 : tie.Need-cast-t16
-cast-t16 c = search needs
+shape-in-requires : tie.Need-shape-in-requires
+shape-in-requires c κs = search needs
 
 returns : tie.Need-returns
-returns c = let r = row (c .before .before .before .before .args .id) in (rw (c .row-of .ensures, r .parts, r .width) refl, search needs, search needs)
+returns c =
+    let r = row (c .before .before .before .before .before .args .id) in
+    let e = c .shape-in .ensures in
+    (rw (e .0, c .before .row-of .ensures, r .parts, r .width) refl, e .1, e .2)
 
 returns-2 : tie.Need-returns-2
-returns-2 c = (rw (row-none (c .before .args .id) (omega arith)) refl, omega arith, omega arith)
+returns-2 c = (rw (row-past (c .before .args .id) (omega arith)) refl, omega arith, omega arith)
 
 pub shape-of-spec : {M : Type 1} → statement M
-shape-of-spec =
-    tie.close (tie.spec cast-row-of row-of-requires cast-t13 cast-t16 returns returns-2)
+shape-of-spec = tie.close (tie.spec cast-row-of row-of-requires shape-in-requires returns returns-2)

@@ -1,12 +1,12 @@
 -- `place` meets its contract.
 use mathlib.Core.Path.{sym, _∙_}
-use Prim.Native.Nat.{_≤_}
+use Prim.Native.Nat.{_≤_, _<_}
 use native.Mathlib.Omega.{arith}
 use denote.Ref.{now}
 use borrow.Author.Tests.{not-true, not-false}
 use Rattle.rules.proofs.PlaceCalls.{place-refused}
 use Rattle.descriptor.proofs.Finds.{InMap, found-refused, found-in}
-use Rattle.placement.proofs.Placing.{offset-small, placing-10, placing-11, placing-at}
+use Rattle.placement.proofs.Placing.{offset-small, parts-small, width-small, placing-10, placing-11, placing-at}
 use Rattle.placement.proofs.Small.{product-fits, part-fits, place-fits, There, there}
 use borrow.Author.Needs.{needs}
 use Rattle.placement.proofs.place.Statement.{statement}
@@ -15,25 +15,18 @@ use Rattle.placement.proofs.place.Tie as tie
 -- the entry that was found, in what the match binds
 in-map : (c : tie.After-known-told2) →
     let g = c .before .before .before .before .before .before .args in
-    let x = c .before .found2 .given .0 in
-    InMap (g .count) (now (g .rw)) (now (g .ro)) (g .entry) (x .0) (x .1 .0) (x .1 .1 .0) (x .1 .1 .1 .0) (x .1 .1 .1 .1 .0)
+    InMap (g .count) (now (g .rw)) (now (g .ro)) (g .entry) (c .before .found2 .given .0 .0)
 in-map c =
     let k = c .before .before .before in
     let g = k .before .before .before .args in
-    found-in (g .count) (now (g .rw)) (now (g .ro)) (g .entry) _ _ _ _ _ (sym (k .find .ensures) ∙ c .before .found2 .given .1)
-
-offset : (c : tie.After-struct-known3) → let x = c .before .before .before .before .before .before .before .found2 .given .0 in x .1 .1 .0 ≤ 256
-offset c =
-    let k = c .before .before .before .before .before .before in
-    let g = k .before .before .before .before .before .before .args in
-    offset-small (g .count) (now (g .rw)) (now (g .ro)) (in-map k)
+    found-in (g .count) (now (g .rw)) (now (g .ro)) 784 (g .entry) (omega arith) _ (sym (k .find .ensures) ∙ c .before .found2 .given .1)
 
 -- the part and the lane are there
 asked : (c : tie.Else2) → let g = c .before .before .before .before .before .before .before .before .before .before .args in There (g .part) (g .lane)
 asked c =
-    let s = c .before .before .before .shape-of in
-    let g = c .before .before .before .before .before .before .before .before .before .before .args in
-    there (g .set) (g .part) (g .lane) (s .result .parts) (s .ensures .1) (not-false _ (c .before .if1 .left))
+    let k = c .before .before .before .before in
+    let g = k .before .before .before .before .before .before .args in
+    there (g .set) (g .part) (g .lane) _ (parts-small (g .count) (now (g .rw)) (now (g .ro)) (in-map k)) (not-false _ (c .before .before .if1 .left))
 
 find-requires : tie.Need-find-requires
 find-requires c κs = search needs
@@ -44,55 +37,61 @@ enum-known-found c = search needs
 enum-known-found-2 : tie.Need-enum-known-found-2
 enum-known-found-2 c = search needs
 
-shape-of-requires : tie.Need-shape-of-requires
-shape-of-requires c κs = search needs
-
 returns : tie.Need-returns
 returns c =
     let k = c .before .before in
-    let g = k .before .before .before .before .before .before .before .args in
-    placing-10 (g .count) (now (g .rw)) (now (g .ro)) (in-map (k .before)) (k .shape-of .ensures .0) (g .set) (g .part) (g .lane) (not-true _ (c .if1 .taken))
+    let g = k .before .before .before .before .before .before .args in
+    placing-10 (g .count) (now (g .rw)) (now (g .ro)) (in-map k) (g .set) (g .part) (g .lane) (not-true _ (c .if1 .taken))
 
 returns-2 : tie.Need-returns-2
 returns-2 c =
-    let k = c .before .before .before in
-    let g = k .before .before .before .before .before .before .before .args in
-    placing-11 (g .count) (now (g .rw)) (now (g .ro)) (in-map (k .before)) (k .shape-of .ensures .0) (g .set) (g .part) (g .lane) (not-false _ (c .before .if1 .left)) (c .if2 .taken)
+    let k = c .before .before .before .before in
+    let g = k .before .before .before .before .before .before .args in
+    placing-11 (g .count) (now (g .rw)) (now (g .ro)) (in-map k) (g .set) (g .part) (g .lane) (not-false _ (c .before .before .if1 .left)) (c .if2 .taken)
 
 sub-first : tie.Need-sub-first
 sub-first c = omega (arith, asked c)
 
+-- the width, and the entry's offset
+narrow : (c : tie.After-struct-known3) → let x = c .before .before .before .before .before .before .found2 .given .0 .0 in x .width < 16
+narrow c =
+    let k = c .before .before .before .before .before in
+    let g = k .before .before .before .before .before .before .args in
+    width-small (g .count) (now (g .rw)) (now (g .ro)) (in-map k)
+
+offset : (c : tie.After-struct-known3) → let x = c .before .before .before .before .before .before .found2 .given .0 .0 in x .offset ≤ 256
+offset c =
+    let k = c .before .before .before .before .before in
+    let g = k .before .before .before .before .before .before .args in
+    offset-small (g .count) (now (g .rw)) (now (g .ro)) (in-map k)
+
 mul-first : tie.Need-mul-first
-mul-first c = product-fits _ _ (omega (arith, asked (c .before))) (c .before .before .before .before .shape-of .ensures .2)
+mul-first c = product-fits _ _ (omega (arith, asked (c .before))) (narrow c)
 
-mul-t26 : tie.Need-mul-t26
-mul-t26 c =
-    let e = c .before .before in
-    product-fits _ _ (omega (arith, asked e .part)) (e .before .before .before .shape-of .ensures .2)
+mul-t23 : tie.Need-mul-t23
+mul-t23 c = product-fits _ _ (omega (arith, asked (c .before .before) .part)) (narrow (c .before))
 
-add-t27 : tie.Need-add-t27
-add-t27 c =
-    let e = c .before .before in
-    part-fits _ _ _ (offset c) (omega (arith, asked e .part)) (e .before .before .before .shape-of .ensures .2)
+add-t24 : tie.Need-add-t24
+add-t24 c = let e = c .before .before in part-fits _ _ _ (offset e) (omega (arith, asked (e .before) .part)) (narrow e)
 
-add-t29 : tie.Need-add-t29
-add-t29 c =
+add-t26 : tie.Need-add-t26
+add-t26 c =
     let e = c .before .before in
-    place-fits _ _ _ (offset c) (omega (arith, asked e .part)) (e .before .before .before .shape-of .ensures .2) _ (omega (arith, asked e))
+    place-fits _ _ _ (offset e) (omega (arith, asked (e .before) .part)) (narrow e) _ (omega (arith, asked (e .before)))
 
 returns-3 : tie.Need-returns-3
 returns-3 c =
     let k = c .before .before .before in
     let g = k .before .before .before .args in
     place-refused (g .count) (now (g .rw)) (now (g .ro)) (g .set) (g .entry) (g .part) (g .lane) _
-    (found-refused (g .count) (now (g .rw)) (now (g .ro)) (g .entry) _ (sym (k .find .ensures) ∙ c .before .found .given .1))
+    (found-refused (g .count) (now (g .rw)) (now (g .ro)) 784 (g .entry) (omega arith) _ (sym (k .find .ensures) ∙ c .before .found .given .1))
 
 returns-4 : tie.Need-returns-4
 returns-4 c =
-    let e = c .before .before in
-    let k = e .before .before .before in
-    let g = k .before .before .before .before .before .before .before .args in
-    placing-at (g .count) (now (g .rw)) (now (g .ro)) (in-map (k .before)) (k .shape-of .ensures .0) (g .set) (g .part) (g .lane) (not-false _ (e .before .if1 .left)) (e .if2 .left)
+    let e = c .before .before .before in
+    let k = e .before .before .before .before in
+    let g = k .before .before .before .before .before .before .args in
+    placing-at (g .count) (now (g .rw)) (now (g .ro)) (in-map k) (g .set) (g .part) (g .lane) (not-false _ (e .before .before .if1 .left)) (e .if2 .left)
 
 pub place-spec : {M : Type 1} → statement M
 place-spec =
@@ -101,13 +100,12 @@ place-spec =
     find-requires
     enum-known-found
     enum-known-found-2
-    shape-of-requires
     returns
     returns-2
     sub-first
     mul-first
-    mul-t26
-    add-t27
-    add-t29
+    mul-t23
+    add-t24
+    add-t26
     returns-3
     returns-4)

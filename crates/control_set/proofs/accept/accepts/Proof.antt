@@ -1,28 +1,61 @@
 -- `accepts` meets its contract.
-use mathlib.Core.Path.{_≡_, _∙_}
+use mathlib.Core.Path.{_≡_, refl}
+use mathlib.Core.Bool.{true, _&&_}
+use borrow.Author.Needs.{needs}
+use native.Mathlib.Omega.{arith}
+use lib.Signed.{leZ}
 use mir.Syntax.{w64}
 use mir.Val.{toZ, ofZ}
 use mir.Facts.{toZ-ofZ}
-use Rattle.control_set.proofs.Table.{values-accepts}
-use borrow.Author.Needs.{needs}
+use borrow.Author.Tests.{eq-eqb, ne-eqb}
+use Rattle.descriptor.specs.Find.{acceptedBy}
+use Rattle.control_set.proofs.Values.{Bit, code-bit, codes-bit}
 use Rattle.control_set.proofs.accept.accepts.Statement.{statement}
 use Rattle.control_set.proofs.accept.accepts.Tie as tie
 
--- the value, as the machine hands it on
+-- the value and the range, as the machine reads them back
 plain : (c : tie.Start) → toZ w64 (ofZ w64 (c .args .value)) ≡ c .args .value
 plain c = toZ-ofZ (c .fits .value)
 
-row-of-requires : tie.Need-row-of-requires
-row-of-requires c κs = search needs
+least : (c : tie.After-struct-told2) → toZ w64 (ofZ w64 (c .before .before .before .before .args .f .least)) ≡ c .before .before .before .before .args .f .least
+least c = search needs
 
-allowed-requires : tie.Need-allowed-requires
-allowed-requires c κs = search needs
+most : (c : tie.After-struct-told2) → toZ w64 (ofZ w64 (c .before .before .before .before .args .f .most)) ≡ c .before .before .before .before .args .f .most
+most c = search needs
+
+within : (c : tie.Then1) → let a = c .before .before .before .before .before .args in (leZ (a .f .least) (a .value) && leZ (a .value) (a .f .most)) ≡ true
+within c = let t = c .before in rw (plain (t .before .before .before .before), least t, most t) at (c .if1 .taken)
+
+-- a code of fewer bits than 8
+code : (c : tie.Else2) → Bit (c .before .before .before .before .before .before .before .args .value)
+code c =
+    let s = c .before .before .before .before .before .before .before in
+    let h = ne-eqb (s .args .f .width) 8 (c .if2 .left) in
+    code-bit (s .args .value) (rw (s .pre .least h, s .pre .most h) at (within (c .before .before)))
 
 returns : tie.Need-returns
-returns c =
-    let s = c .before .before in
-    let h = rw (plain s, c .before .row-of .ensures) at (c .allowed .ensures) in
-    h ∙ values-accepts (s .args .id) (s .args .codes) (s .args .value)
+unfolding acceptedBy
+returns c = rw (within (c .before .before), eq-eqb _ 8 (c .if2 .taken)) refl
+
+cast-result : tie.Need-cast-result
+cast-result c = rw (plain (c .before .before .before .before .before .before .before)) (code c .low, record { fits = omega (arith, code c .top) })
+
+shr-result : tie.Need-shr-result
+shr-result c = rw (plain (c .before .before .before .before .before .before .before .before)) (code (c .before) .top)
+
+returns-2 : tie.Need-returns-2
+unfolding acceptedBy
+returns-2 c =
+    let e = c .before in
+    let s = e .before .before .before .before .before .before .before in
+    rw (plain s, within (e .before .before), ne-eqb _ 8 (e .if2 .left)) (codes-bit (s .args .f .listed) (s .args .value) (code e .low))
+
+returns-3 : tie.Need-returns-3
+unfolding acceptedBy
+returns-3 c =
+    let t = c .before in
+    let h = rw (plain (t .before .before .before .before), least t, most t) at (c .if1 .left) in
+    rw h refl
 
 pub accepts-spec : {M : Type 1} → statement M
-accepts-spec = tie.close (tie.spec row-of-requires allowed-requires returns)
+accepts-spec = tie.close (tie.spec returns cast-result shr-result returns-2 returns-3)

@@ -17,12 +17,12 @@ use Rattle.control_set.proofs.copy.copy_all.Statement.{statement}
 use Rattle.control_set.proofs.copy.copy_all.Tie as tie
 
 abbrev Inv-loop : tie.InvT-loop
-Inv-loop classes rows chosen apps first entries bank₀ a number₀ at₀ sum₀ bank number at sum =
+Inv-loop classes rows values chosen apps first entries bank₀ a number₀ at₀ sum₀ bank number at sum =
     Passed (rwEntries (chosen .count) first) number at sum
     × Upto (λ n. copyEntry chosen (fieldsOf (getD (rwEntries (chosen .count) first) n nothing)) bank₀) number bank₀ bank
 
 abbrev μ-loop : tie.MeasureT-loop
-μ-loop classes rows chosen apps first entries bank₀ a number₀ at₀ sum₀ bank number at sum = entries - number
+μ-loop classes rows values chosen apps first entries bank₀ a number₀ at₀ sum₀ bank number at sum = entries - number
 
 -- the entry that is read, and its fields
 there : (c : tie.In-loop Inv-loop μ-loop) → let s = c .before .before .before .before .before in c .before .loop .number < length (rwEntries (s .args .chosen .count) (now (s .args .rw)))

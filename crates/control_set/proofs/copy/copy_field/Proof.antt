@@ -1,4 +1,5 @@
 -- `copy_field` meets its contract.
+use borrow.Author.Needs.{needs}
 use mathlib.Core.Path.{ap, _∙_}
 use native.Mathlib.Omega.{arith}
 use denote.Ref.{now}
@@ -6,27 +7,14 @@ use Rattle.rules.specs.Place.{laneBit}
 use Rattle.control_set.specs.Field.{withBits}
 use Rattle.control_set.proofs.Spots.{spot-room, bits-at-lt}
 use Rattle.control_set.proofs.Copies.{merge-mid}
-use borrow.Author.Needs.{needs}
 use Rattle.control_set.proofs.copy.copy_field.Statement.{statement}
 use Rattle.control_set.proofs.copy.copy_field.Tie as tie
 
 read-field-requires : tie.Need-read-field-requires
 read-field-requires c κs = search needs
 
-sub-first : tie.Need-sub-first
-sub-first c = search needs
-
-mul-first : tie.Need-mul-first
-mul-first c = search needs
-
-mul-at : tie.Need-mul-at
-mul-at c = search needs
-
-add-at : tie.Need-add-at
-add-at c = search needs
-
-add-at-2 : tie.Need-add-at-2
-add-at-2 c = search needs
+place-of-requires : tie.Need-place-of-requires
+place-of-requires c κs = search needs
 
 sub-put-bits : tie.Need-sub-put-bits
 sub-put-bits c = search needs
@@ -39,19 +27,23 @@ part-put-bits-end c = search needs
 
 put-bits-requires : tie.Need-put-bits-requires
 put-bits-requires c κs =
-    let s = c .before .before .before .before in
-    (omega (arith, s .pre .inside, s .pre .size), spot-room (s .pre), rw (c .before .read-field .ensures) (bits-at-lt (now (s .args .bank)) _ _ _ _ _))
+    let p = c .before in
+    let r = p .before in
+    let s = r .before .before .before in
+    rw (p .place-of .ensures .0, p .place-of .ensures .1)
+    (omega (arith, s .pre .inside, s .pre .size), spot-room (s .pre), rw (r .read-field .ensures) (bits-at-lt (now (s .args .bank)) _ _ _ _ _))
 
 same-length : tie.Need-same-length
 same-length c = search needs
 
 returns : tie.Need-returns
 returns c =
-    let p = c .before .before in
-    let r = p .before .before in
+    let q = c .before .before in
+    let p = q .before .before in
+    let r = p .before in
     let s = r .before .before .before in
     let g = s .args in
-    rw (p .put-bits .ensures)
+    rw (q .put-bits .ensures, p .place-of .ensures .0, p .place-of .ensures .1)
     (merge-mid 512 256 _ (now (g .bank)) (s .pre .inside) (omega (arith, s .pre .size)) (laneBit (g .width) (g .lane)) (g .width) _
     ∙ ap (withBits (now (g .bank)) 2 (g .offset) (g .part) (g .width) (g .lane)) (r .read-field .ensures))
 
@@ -60,11 +52,7 @@ copy-field-spec =
     tie.close
     (tie.spec
     read-field-requires
-    sub-first
-    mul-first
-    mul-at
-    add-at
-    add-at-2
+    place-of-requires
     sub-put-bits
     part-put-bits-start
     part-put-bits-end

@@ -1,28 +1,44 @@
 -- `fields_at` meets its contract.
-use mathlib.Core.Path.{refl}
+use borrow.Author.Needs.{needs}
+use mathlib.Core.Path.{_≡_, refl}
 use Prim.Native.Nat.{_+_}
+use native.Mathlib.Omega.{arith}
+use lib.ListN.{getD}
 use denote.Ref.{now}
 use Rattle.rules.specs.Descriptor.{byteAt}
 use Rattle.rules.specs.Place.{partsOf, widthOf}
-use Rattle.control_set.proofs.Table.{row-codes, row-parts, row-width}
-use borrow.Author.Needs.{needs}
+use Rattle.descriptor.specs.Rows.{rowNumber, valuesNumber}
+use Rattle.descriptor.proofs.TableRows.{row}
+use Rattle.descriptor.proofs.Wides.{row-codes}
 use Rattle.control_set.proofs.plan.fields_at.Statement.{statement}
 use Rattle.control_set.proofs.plan.fields_at.Tie as tie
+
+-- the rows of the entry's ID
+row-is : (c : tie.After-class-of) →
+    let g = c .before .before .before .args in
+    (getD (now (g .rows)) (c .class-of .result) 0 ≡ rowNumber (byteAt (now (g .s)) (g .at)))
+    × (getD (now (g .values)) (c .class-of .result) 0 ≡ valuesNumber (byteAt (now (g .s)) (g .at)))
+unfolding rowNumber valuesNumber
+row-is c =
+    let s = c .before .before .before in (
+      rw (s .pre .0 .rows-are, c .class-of .ensures .0, c .before .byte-from .ensures .0) refl,
+      rw (s .pre .0 .values-are, c .class-of .ensures .0, c .before .byte-from .ensures .0) refl,
+    )
 
 byte-from-requires : tie.Need-byte-from-requires
 byte-from-requires c κs = search needs
 
-row-in-requires : tie.Need-row-in-requires
-row-in-requires c κs = search needs
+class-of-requires : tie.Need-class-of-requires
+class-of-requires c κs = c .before .before .pre .0 .classes-are
 
-add-codes-from : tie.Need-add-codes-from
-add-codes-from c = search needs
+mul-row : tie.Need-mul-row
+mul-row c = omega (arith, c .class-of .ensures .1)
 
-add-codes-from-2 : tie.Need-add-codes-from-2
-add-codes-from-2 c = search needs
+element-copy-out-row : tie.Need-element-copy-out-row
+element-copy-out-row c = c .class-of .ensures .1
 
-codes-from-requires : tie.Need-codes-from-requires
-codes-from-requires c κs = search needs
+shape-in-requires : tie.Need-shape-in-requires
+shape-in-requires c κs = search needs
 
 add-mask-at : tie.Need-add-mask-at
 add-mask-at c = search needs
@@ -30,38 +46,45 @@ add-mask-at c = search needs
 mask-at-requires : tie.Need-mask-at-requires
 mask-at-requires c κs = search needs
 
-listed-requires : tie.Need-listed-requires
-listed-requires c κs = search needs
+mul-listed-from : tie.Need-mul-listed-from
+mul-listed-from c = omega (arith, c .before .before .before .class-of .ensures .1)
 
-cast-t14 : tie.Need-cast-t14
-cast-t14 c = search needs
+element-copy-out-listed-from : tie.Need-element-copy-out-listed-from
+element-copy-out-listed-from c = c .before .before .before .class-of .ensures .1
 
-cast-t16 : tie.Need-cast-t16
-cast-t16 c = search needs
+add-listed-from : tie.Need-add-listed-from
+add-listed-from c = search needs
+
+add-listed-from-2 : tie.Need-add-listed-from-2
+add-listed-from-2 c = search needs
+
+listed-from-requires : tie.Need-listed-from-requires
+listed-from-requires c κs = search needs
 
 returns : tie.Need-returns
 unfolding partsOf widthOf
 returns c =
-    let m = c .before in
-    let k = m .before in
-    let r = k .before in
-    let i = r .before in
-    let g = i .before .before .args in
+    let m = c .before .before in
+    let h = m .before in
+    let k = h .before .before in
+    let g = k .before .before .before .args in
     let id = byteAt (now (g .s)) (g .at) in
-    rw (c .listed .ensures, m .mask-at .ensures, k .codes-from .ensures, r .row-in .ensures, i .byte-from .ensures .0, row-codes id (now (g .s)) (g .at + 4 + g .a), row-parts id, row-width id) refl
+    rw (c .listed-from .ensures, m .mask-at .ensures, h .shape-in .ensures .0, row-is k .0, row-is k .1, row-codes id (now (g .s)) (g .at + 4 + g .a), row id .parts, row id .width) refl
 
 pub fields-at-spec : {M : Type 1} → statement M
 fields-at-spec =
     tie.close
     (tie.spec
     byte-from-requires
-    row-in-requires
-    add-codes-from
-    add-codes-from-2
-    codes-from-requires
+    class-of-requires
+    mul-row
+    element-copy-out-row
+    shape-in-requires
     add-mask-at
     mask-at-requires
-    listed-requires
-    cast-t14
-    cast-t16
+    mul-listed-from
+    element-copy-out-listed-from
+    add-listed-from
+    add-listed-from-2
+    listed-from-requires
     returns)

@@ -17,12 +17,12 @@ use Rattle.control_set.proofs.plan.lowest_bad.Statement.{statement}
 use Rattle.control_set.proofs.plan.lowest_bad.Tie as tie
 
 abbrev Inv-loop : tie.InvT-loop
-Inv-loop classes rows chosen apps first entries bank a lowest₀ number₀ at₀ sum₀ lowest number at sum =
+Inv-loop classes rows values chosen apps first entries bank a lowest₀ number₀ at₀ sum₀ lowest number at sum =
     Passed (rwEntries (chosen .count) first) number at sum
     × Least 9 lowest (λ i. any number λ n. badIn chosen (fieldsOf (getD (rwEntries (chosen .count) first) n nothing)) bank i)
 
 abbrev μ-loop : tie.MeasureT-loop
-μ-loop classes rows chosen apps first entries bank a lowest₀ number₀ at₀ sum₀ lowest number at sum = entries - number
+μ-loop classes rows values chosen apps first entries bank a lowest₀ number₀ at₀ sum₀ lowest number at sum = entries - number
 
 -- the entry that is read, and its fields
 there : (c : tie.In-loop Inv-loop μ-loop) → let s = c .before .before .before .before .before in c .before .loop .number < length (rwEntries (s .args .chosen .count) (now (s .args .rw)))

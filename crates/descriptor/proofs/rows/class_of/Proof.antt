@@ -6,7 +6,7 @@ use native.Mathlib.Omega.{arith}
 use lib.ListN.{getD, List·getD-eq-default}
 use denote.Ref.{now}
 use Rattle.descriptor.specs.Rows.{classes}
-use Rattle.descriptor.proofs.Table.{class-small}
+use Rattle.descriptor.proofs.TableRows.{class-small}
 use Rattle.descriptor.proofs.rows.class_of.Statement.{statement}
 use Rattle.descriptor.proofs.rows.class_of.Tie as tie
 

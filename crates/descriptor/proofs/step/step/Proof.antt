@@ -12,7 +12,7 @@ use Rattle.rules.specs.Parameter.{rowOf}
 use Rattle.rules.specs.Descriptor.{byteAt, entryAt, overruns, lengthChecks, decodeAt}
 use Rattle.rules.proofs.Rows.{row-least}
 use Rattle.descriptor.specs.Rows.{leastIn}
-use Rattle.descriptor.proofs.Table.{row}
+use Rattle.descriptor.proofs.TableRows.{row}
 use Rattle.descriptor.proofs.Chain.{pass, stop}
 use Rattle.descriptor.proofs.step.step.Statement.{statement}
 use Rattle.descriptor.proofs.step.step.Tie as tie

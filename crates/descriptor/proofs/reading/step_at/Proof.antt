@@ -3,8 +3,8 @@ use borrow.Author.Needs.{needs}
 use mathlib.Core.Path.{refl}
 use borrow.Author.Tests.{lt-ltb, le-ltb}
 use Rattle.descriptor.specs.Steps.{stepBy}
-use Rattle.descriptor.proofs.wide.step_at.Statement.{statement}
-use Rattle.descriptor.proofs.wide.step_at.Tie as tie
+use Rattle.descriptor.proofs.reading.step_at.Statement.{statement}
+use Rattle.descriptor.proofs.reading.step_at.Tie as tie
 
 add-byte-at : tie.Need-add-byte-at
 add-byte-at c = search needs
