@@ -16,7 +16,7 @@ use Rattle.rules.specs.declared.Call.{Call}
 use Rattle.rules.specs.declared.Answer.the-variants.{Yes as saysYes, Number as number, Refused as refused}
 use Rattle.rules.specs.Load.{Map, sized, mapOf}
 use Rattle.rules.specs.Place.{entry, partsOf, widthOf, isSet, isStaged, heldBy, lengthOf}
-use Rattle.rules.specs.Layout.{bankSize}
+use Rattle.rules.specs.Layout.{bankSize, HasBytes, setStart}
 use Rattle.rules.specs.Refuse.{Verdict, refuses, firstOf, bankOrder, exists, misdirected, unaccepted}
 use Rattle.rules.specs.Bank.{Bank, fieldBits, bankPlan, bankDoes, bankStep}
 use Rattle.rules.proofs.Tests.{and₂, is-true, is-false, from-true, and-no}
@@ -41,7 +41,7 @@ use Rattle.control_set.specs.declared.gate.Byte.the-variants.{Refused as
 use Rattle.control_set.proofs.Ways.{call-11, call-done}
 
 -- the bits of fields in a byte of an entry's space
-module _ (m : Map) (g : GoodMap m) (s k e : ℕ) (hs : s < 3) (he : e < heldBy m s) (low : entry m e .offset ≤ k) (top : k < entry m e .offset + entry m e .memory) where
+module _ (m : Map) (g : GoodMap m) (s k e : ℕ) (hs : HasBytes s) (he : e < heldBy m s) (low : entry m e .offset ≤ k) (top : k < entry m e .offset + entry m e .memory) where
   surplus-bits : entry m e .offset + partsOf (entry m e) * widthOf (entry m e) ≤ k → (x : ℕ) → fieldBits m s k x ≡ 0
   unfolding fieldBits
   surplus-bits l x = sum-zero 8 _ λ q lq. rw (owner-surplus m g s k q hs lq e he l top)
@@ -143,12 +143,12 @@ module _ (count : ℕ) (first last : List ℕ) (b : Bank) (s k : ℕ) where
     unfolding exists misdirected
     byte-write-11 v h = call-11 count first last (Call.ByteWrite s k v) b opened there (eq-eqb s 2 h)
 
-    pub byte-write-done : (v : ℕ) → s ≢ 2 → v < 256 → bankStep count first last (Call.ByteWrite s k v) b ≡ (saysYes, set b (256 * s + k) (cond fields v 0))
+    pub byte-write-done : (v : ℕ) → s ≢ 2 → v < 256 → bankStep count first last (Call.ByteWrite s k v) b ≡ (saysYes, set b (setStart s + k) (cond fields v 0))
     unfolding exists misdirected unaccepted bankPlan bankDoes
     byte-write-done v n h = call-done count first last (Call.ByteWrite s k v) b opened there (ne-eqb s 2 n) refl refl ∙ rw (whole v h) refl
 
     pub byte-read-done :
-        getD b (256 * s + k) 0 < 256
-        → bankStep count first last (Call.ByteRead s k) b ≡ (number (pos (cond fields (getD b (256 * s + k) 0) 0)), b)
+        getD b (setStart s + k) 0 < 256
+        → bankStep count first last (Call.ByteRead s k) b ≡ (number (pos (cond fields (getD b (setStart s + k) 0) 0)), b)
     unfolding exists misdirected unaccepted bankPlan bankDoes
-    byte-read-done h = call-done count first last (Call.ByteRead s k) b opened there refl refl refl ∙ rw (whole (getD b (256 * s + k) 0) h) refl
+    byte-read-done h = call-done count first last (Call.ByteRead s k) b opened there refl refl refl ∙ rw (whole (getD b (setStart s + k) 0) h) refl

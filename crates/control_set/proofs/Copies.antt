@@ -17,21 +17,22 @@ use Rattle.rules.specs.Numbers.{cut}
 use Rattle.rules.specs.Descriptor.{hasApp}
 use Rattle.rules.specs.Place.{laneBit}
 use Rattle.rules.specs.Refuse.{chooses}
-use Rattle.rules.specs.Layout.{bankSize, setStart, appSelAt}
+use Rattle.rules.specs.Layout.{bankSize, HasBytes, setStart, appSelAt}
 use Rattle.rules.specs.Bank.{Bank, merge, loop}
+use Rattle.rules.proofs.BankLayout.{set-apart, app-no-set}
 use Rattle.rules.proofs.Lanes.{Width, lane-byte-lt}
 use Rattle.rules.proofs.Applied.{loop-inv}
 use Rattle.control_set.specs.declared.plan.Chosen.{Chosen}
 use Rattle.control_set.specs.declared.plan.Fields.{Fields}
 use Rattle.control_set.specs.Field.{Spot, byteIn, bitsAt, withBits}
-use Rattle.control_set.specs.Plan.{Asked, Spread, copiesBy, copyLane, copyPart, copyEntry}
+use Rattle.control_set.specs.Plan.{Asked, Spread, copiesBy, copyLane, copyPart, copyEntry, byteCopied}
 
 -- a field of an entry, in any set
 pub spread-spot :
     {f : Fields} (b : Bank)
     → bankSize ≤ length b
     → Spread f
-    → (s : ℕ) → s < 3
+    → (s : ℕ) → HasBytes s
     → (p i : ℕ) → p < f .parts → 1 ≤ i → i ≤ 8
     → Spot b s (f .offset) p (f .width) i
 spread-spot {f} b size g s hs p i hp l u =
@@ -52,17 +53,29 @@ merge-mid a k j l hj h t w v =
 pub set-mid : (a k j : ℕ) (l : List ℕ) → j < k → a + k ≤ length l → (v : ℕ) → putMid a k l (set (midOf a k l) j v) ≡ set l (a + j) v
 set-mid a k j l hj h v = set-mid-at a k j l v (simp (length-take, length-drop) (omega arith))
 
--- only the active set, bytes 512 to 767, may differ
+-- only the active set may differ
+abbrev pub Outside : ℕ → Type 0
+Outside k = (j : ℕ) → j < 256 → k ≢ setStart 2 + j
+
 pub record Kept (b b′ : Bank) : Type 0 where
   pub size : length b′ ≡ length b
-  pub low : (k : ℕ) → k < 512 → getD b′ k 0 ≡ getD b k 0
-  pub high : (k : ℕ) → 768 ≤ k → getD b′ k 0 ≡ getD b k 0
+  pub rest : (k : ℕ) → Outside k → getD b′ k 0 ≡ getD b k 0
+
+pub app-outside : (s i : ℕ) → s < 2 → i ≤ 8 → Outside (appSelAt s i)
+app-outside s i hs hi j hj = app-no-set s i 2 j hs hi (omega arith) hj
+
+pub staged-outside : (s k : ℕ) → s < 2 → k < 256 → Outside (setStart s + k)
+staged-outside s k hs hk j hj q = let e = set-apart s k 2 j (omega arith) (omega arith) hk hj q .0 in omega arith
 
 kept-same : (b : Bank) → Kept b b
-kept-same b = record { size = refl; low = λ k l. refl; high = λ k l. refl }
+kept-same b = record { size = refl; rest = λ k o. refl }
 
 kept-then : {a b c : Bank} → Kept a b → Kept b c → Kept a c
-kept-then p q = record { size = q .size ∙ p .size; low = λ k l. q .low k l ∙ p .low k l; high = λ k l. q .high k l ∙ p .high k l }
+kept-then p q = record { size = q .size ∙ p .size; rest = λ k o. q .rest k o ∙ p .rest k o }
+
+-- one byte of the active set
+kept-set : (b : Bank) (j v : ℕ) → j < 256 → Kept b (set b (setStart 2 + j) v)
+kept-set b j v hj = record { size = length-set b _ _; rest = λ k o. getD-set-other b (setStart 2 + j) k v 0 (o j hj) }
 
 loop-kept : (n : ℕ) (f : ℕ → Bank → Bank) (b : Bank) → ((j : ℕ) (b′ : Bank) → j < n → Kept b′ (f j b′)) → Kept b (loop n f b)
 loop-kept n f b h = loop-inv n f (λ j b′. Kept b b′) b (kept-same b) (λ j b′ l p. kept-then p (h j b′ l))
@@ -127,17 +140,17 @@ turn f j b₀ b b′ i h q = record { kept = kept-then (i .kept) (rw q h); is = 
 
 module _ {c : Chosen} {b₀ b : Bank} (a : Asked c b₀) (k : Kept b₀ b) {f : Fields} (g : Spread f) where
   -- the staged set is read the same
-  copies-same : (i : ℕ) → copiesBy c (f .mask) b i ≡ copiesBy c (f .mask) b₀ i
-  copies-same i = ap (λ (x : ℕ). chooses (c .lanes) i && hasApp (c .count) (f .mask) x) (k .high (appSelAt (c .set) i) (omega arith))
+  copies-same : (i : ℕ) → i ≤ 8 → copiesBy c (f .mask) b i ≡ copiesBy c (f .mask) b₀ i
+  copies-same i u = ap (λ (x : ℕ). chooses (c .lanes) i && hasApp (c .count) (f .mask) x) (k .rest (appSelAt (c .set) i) (app-outside (c .set) i (a .staged) u))
 
   bits-same : (p i : ℕ) → p < f .parts → 1 ≤ i → i ≤ 8 → bitsAt b (c .set) (f .offset) p (f .width) i ≡ bitsAt b₀ (c .set) (f .offset) p (f .width) i
   bits-same p i hp l u =
       let t = spread-spot b₀ (a .size) g (c .set) (omega (arith, a .staged)) p i hp l u .inside in
-      ap (λ (x : ℕ). cut x (laneBit (f .width) i) (f .width)) (k .low (setStart (c .set) + byteIn (f .offset) p (f .width) i) (omega (arith, a .staged)))
+      ap (λ (x : ℕ). cut x (laneBit (f .width) i) (f .width)) (k .rest (setStart (c .set) + byteIn (f .offset) p (f .width) i) (staged-outside (c .set) _ (a .staged) t))
 
   lane-same : (p j : ℕ) → p < f .parts → j < 8 → (x : Bank) → copyLane c f b p (suc j) x ≡ copyLane c f b₀ p (suc j) x
   unfolding copyLane
-  lane-same p j hp hj x = rw (copies-same (suc j), bits-same p (suc j) hp (omega arith) (omega arith)) refl
+  lane-same p j hp hj x = rw (copies-same (suc j) hj, bits-same p (suc j) hp (omega arith) (omega arith)) refl
 
   part-same : (p : ℕ) → p < f .parts → (x : Bank) → copyPart c f b p x ≡ copyPart c f b₀ p x
   unfolding copyPart
@@ -156,12 +169,7 @@ module _ (c : Chosen) {f : Fields} (g : Spread f) (b₀ : Bank) where
       inside = omega (arith, digits-lt hp (lane-byte-lt (f .width) (g .whole (omega arith)) (suc j) (omega arith) (omega arith)), g .inside)
 
       go : (t : Bool) → Kept x (cond t (withBits x 2 (f .offset) p (f .width) (suc j) (bitsAt b₀ (c .set) (f .offset) p (f .width) (suc j))) x)
-      go true =
-          record {
-            size = length-set x _ _;
-            low = λ k u. getD-set-other x (setStart 2 + byteIn (f .offset) p (f .width) (suc j)) k _ 0 (λ q. omega arith);
-            high = λ k u. getD-set-other x (setStart 2 + byteIn (f .offset) p (f .width) (suc j)) k _ 0 (λ q. omega (arith, inside));
-          }
+      go true = kept-set x (byteIn (f .offset) p (f .width) (suc j)) _ inside
       go false = kept-same x
 
   part-kept : (p : ℕ) → p < f .parts → (x : Bank) → Kept x (copyPart c f b₀ p x)
@@ -206,14 +214,10 @@ module _ (s : ℕ) (hs : s < 2) {f : Fields} (g : Spread f) {b₀ b b′ : Bank}
   pub byte-turn :
       (k : ℕ)
       → k < f .parts * f .width
-      → Upto (λ j. λ x. set x (512 + (f .offset + j)) (getD b₀ (256 * s + (f .offset + j)) 0)) k b₀ b
-      → b′ ≡ set b (512 + (f .offset + k)) (getD b (256 * s + (f .offset + k)) 0)
-      → Upto (λ j. λ x. set x (512 + (f .offset + j)) (getD b₀ (256 * s + (f .offset + j)) 0)) (k + 1) b₀ b′
+      → Upto (byteCopied s f b₀) k b₀ b
+      → b′ ≡ byteCopied s f b k b
+      → Upto (byteCopied s f b₀) (k + 1) b₀ b′
   byte-turn k h i q =
-      turn (λ j. λ x. set x (512 + (f .offset + j)) (getD b₀ (256 * s + (f .offset + j)) 0)) k b₀ b b′ i
-      (record {
-        size = length-set b _ _;
-        low = λ n u. getD-set-other b (512 + (f .offset + k)) n _ 0 (λ e. omega arith);
-        high = λ n u. getD-set-other b (512 + (f .offset + k)) n _ 0 (λ e. omega (arith, g .inside));
-      })
-      (q ∙ ap (set b (512 + (f .offset + k))) (i .kept .low (256 * s + (f .offset + k)) (omega (arith, g .inside))))
+      let inside : f .offset + k < 256 = omega (arith, g .inside) in
+      turn (byteCopied s f b₀) k b₀ b b′ i (kept-set b (f .offset + k) _ inside)
+      (q ∙ ap (set b (setStart 2 + (f .offset + k))) (i .kept .rest (setStart s + (f .offset + k)) (staged-outside s _ hs inside)))

@@ -4,7 +4,6 @@ use mathlib.Core.Bool.{Bool, true, false, _&&_, _||_, not}
 use mathlib.Core.List.{List, [], _∷_}
 use Prim.Native.Nat.{ℕ, _^_, _≤_, _<_}
 use native.Mathlib.Omega.{arith}
-use native.Mathlib.Decide.{decLt}
 use lib.IntN.{ℤ, pos}
 use lib.ListN.{length}
 use lib.Dec.{T, ltb, eqb, ltb→lt, eqb→eq}
@@ -17,7 +16,7 @@ use Rattle.rules.specs.Parameter.{rowOf}
 use Rattle.rules.specs.Load.{Map, sized, mapOf}
 use Rattle.rules.specs.Place.{entry, partsOf, widthOf, signedOf, isSet, isStaged, isRW, isLane, heldBy, hasField}
 use Rattle.rules.specs.Accept.{accepts, toBits, weightOf}
-use Rattle.rules.specs.Layout.{bankSize}
+use Rattle.rules.specs.Layout.{bankSize, HasBytes}
 use Rattle.rules.specs.Refuse.{Verdict, passes, refuses, refuseIf, firstOf, check9, check8, check1to7, bankOrder, exists, misdirected}
 use Rattle.rules.specs.Bank.{Bank, numberIn, withNumber, bankStep}
 use Rattle.rules.specs.Beside.{isWeighed, weightCall}
@@ -31,26 +30,15 @@ use Rattle.rules.proofs.Orders.{bank-order-accepted}
 use Rattle.descriptor.specs.declared.Found.{Found}
 use Rattle.descriptor.specs.declared.Found.the-variants.{In as isIn, Refused as notFound}
 use Rattle.descriptor.specs.declared.Named.{Named}
-use Rattle.descriptor.specs.Find.{mostBy, acceptedBy, foundOf}
+use Rattle.descriptor.specs.Find.{InMap, mostBy, acceptedBy, toldOrder, foundOf}
 use Rattle.descriptor.proofs.Accepts.{named-accepts}
-use Rattle.descriptor.proofs.Finds.{id-is, side-is, offset-is, parts-is, width-is, most-is, step-is, InMap, found-stops, found-9, found-8, found-in}
+use Rattle.descriptor.proofs.Finds.{id-is, side-is, offset-is, parts-is, width-is, most-is, step-is, found-stops, found-9, found-8, found-in}
 use Rattle.control_set.specs.Field.{Spot, InBits, bitsAt, withBits}
 use Rattle.control_set.specs.Values.{Ranged, numberBy}
-use Rattle.control_set.specs.Gate.{Opened, refusedOf}
+use Rattle.control_set.specs.Gate.{Opened, Entered, EntryGated, refusedOf}
 use Rattle.control_set.proofs.Spots.{spot-room, spot-field, bits-at-lt, number-field, with-number}
 use Rattle.control_set.proofs.Signs.{accepted-byte}
 use Rattle.control_set.proofs.Values.{named-ranged, number-named}
-
--- past 9, 8 and 1 to 7 with an entry of the map
-pub record Entered (count : ℕ) (rw ro : List ℕ) (size e : ℕ) (f : Named) : Type 0 where
-  pub size-is : bankSize ≤ size
-  pub named : InMap count rw ro e f
-
--- refused, where what follows gives 10 to an entry that doesn't exist
-abbrev pub EntryGated : ℕ → List ℕ → List ℕ → ℕ → ℕ → Found → Type 0
-EntryGated count rw ro size e (isIn f) = Entered count rw ro size e f
-EntryGated count rw ro size e (notFound r) =
-    (rest : List Verdict) → (length (mapOf count rw ro .entries) ≤ e → firstOf rest ≡ refuses (plain 10)) → bankOrder count rw ro size rest ≡ refuses r
 
 -- what comes before 10, and 10 itself, in the order of any call that gives 10 to an entry that doesn't exist
 pass-on :
@@ -71,19 +59,18 @@ module _ (count : ℕ) (first last : List ℕ) (size e : ℕ) where
   verdict : Verdict
   verdict = bankOrder count first last size (refuseIf (not (ltb e (length (m .entries)))) (plain 10) ∷ [])
 
-  pub found-gated : (f : Found) → f ≡ foundOf count first last size e → EntryGated count first last size e f
-  unfolding foundOf bankOrder verdict
+  pub found-gated : (f : Found) → f ≡ foundOf count first last (ltb size bankSize) e → EntryGated count first last size e f
+  unfolding foundOf toldOrder bankOrder check8 verdict
   found-gated (notFound r) q =
       λ rest k. pass-on (check9 count first last) (check8 size) (check1to7 count first last) (ltb e (length (m .entries))) r rest
       (found-stops verdict _ r (sym q)) (λ t. k (ltb-false _ _ t))
-  found-gated (isIn f) q = go (decLt size bankSize) (sized count first last) refl
+  found-gated (isIn f) q = go (ltb size bankSize) refl (sized count first last) refl
     where
-      go : Dec (size < bankSize) → (t : Bool) → sized count first last ≡ t → Entered count first last size e f
-      go (yes l) true h = let z = found-8 count first last size e h l ∙ sym q in let o : _≡_ {A = ℕ} 0 1 = cc in absurd (omega arith)
-      go (yes l) false h = let z = found-9 count first last size e h ∙ sym q in let o : _≡_ {A = ℕ} 0 1 = cc in absurd (omega arith)
-      go (no l) t h =
-          let u : bankSize ≤ size = omega arith in
-          record { size-is = u; named = found-in count first last size e u f (sym q) }
+      go : (x : Bool) → ltb size bankSize ≡ x → (t : Bool) → sized count first last ≡ t → Entered count first last size e f
+      go true l true h = let z = found-8 count first last (ltb size bankSize) e h l ∙ sym q in let o : _≡_ {A = ℕ} 0 1 = cc in absurd (omega arith)
+      go true l false h = let z = found-9 count first last (ltb size bankSize) e h ∙ sym q in let o : _≡_ {A = ℕ} 0 1 = cc in absurd (omega arith)
+      go false l t h =
+          record { size-is = ltb-false size bankSize l; named = found-in count first last (ltb size bankSize) e l f (sym q) }
 
 -- the rules' tests of a call on a field, in the numbers of the entry that is found
 module _ (count : ℕ) (first last : List ℕ) (b : Bank) {e : ℕ} {f : Named} (t : Entered count first last (length b) e f) where
@@ -122,7 +109,7 @@ module _ (count : ℕ) (first last : List ℕ) (b : Bank) {e : ℕ} {f : Named} 
   publish-tested p i v = has p i
 
   -- the field
-  field-there : (s p i : ℕ) → s < 3 → e < heldBy (mapOf count first last) s → (ltb p (f .parts) && isLane i) ≡ true → Field (mapOf count first last) s e p i
+  field-there : (s p i : ℕ) → HasBytes s → e < heldBy (mapOf count first last) s → (ltb p (f .parts) && isLane i) ≡ true → Field (mapOf count first last) s e p i
   field-there s p i l h k = field-of n s e p i l h (from-true (has p i ∙ k))
 
   pub spot-there : {s p i : ℕ} → Field (mapOf count first last) s e p i → Spot b s (f .offset) p (f .width) i

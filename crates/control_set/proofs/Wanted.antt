@@ -22,7 +22,7 @@ use Rattle.control_set.specs.declared.plan.Chosen.{Chosen}
 use Rattle.control_set.specs.declared.plan.Fields.{Fields}
 use Rattle.control_set.specs.Field.{bitsAt}
 use Rattle.control_set.specs.Plan.{Asked, Spread, Wants, Clear, Least, joinedBy, copiesBy, lacksBy, badAt, badIn, copyLane, copyPart, copyEntry}
-use Rattle.control_set.proofs.Copies.{Kept}
+use Rattle.control_set.proofs.Copies.{Kept, app-outside}
 use Rattle.descriptor.proofs.Bits.{and-bit, or-bit}
 use Rattle.control_set.proofs.Signs.{few-bits}
 use Rattle.control_set.proofs.Spots.{bits-at-lt}
@@ -88,15 +88,15 @@ module _ {c : Chosen} {b : Bank} (a : Asked c b) where
         ones (suc (suc (suc (suc (suc (suc (suc (suc j)))))))) h = absurd (omega arith)
 
 -- the same on a bank with the same AppSels
-module _ (c : Chosen) {b b′ : Bank} (k : Kept b b′) where
-  app-kept : (i : ℕ) → appSelIn b′ (c .set) i ≡ appSelIn b (c .set) i
-  app-kept i = k .high (appSelAt (c .set) i) (omega arith)
+module _ (c : Chosen) (staged : c .set < 2) {b b′ : Bank} (k : Kept b b′) where
+  app-kept : (i : ℕ) → i ≤ 8 → appSelIn b′ (c .set) i ≡ appSelIn b (c .set) i
+  app-kept i u = k .rest (appSelAt (c .set) i) (app-outside (c .set) i staged u)
 
   pub wants-kept : (apps : ℕ) → Wants c b 9 apps → Wants c b′ 9 apps
-  wants-kept apps w i l u h = rw (app-kept i) (w i l u (rw (app-kept i) at h))
+  wants-kept apps w i l u h = let e = app-kept i (omega arith) in rw e (w i l u (rw e at h))
 
   pub clear-kept : Clear 9 (lacksBy c b) → Clear 9 (lacksBy c b′)
-  clear-kept h i l u = rw (app-kept i) (h i l u)
+  clear-kept h i l u = rw (app-kept i (omega arith)) (h i l u)
 
 -- an entry that has none
 any-none-of : (n : ℕ) (f : ℕ → Bool) → ((k : ℕ) → f k ≡ false) → any n f ≡ false

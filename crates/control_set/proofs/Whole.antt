@@ -11,13 +11,14 @@ use lib.ListN.{length, getD, set, length-set}
 use lib.Seq.{set-getD, set-set, getD-set-same, getD-set-other}
 use Rattle.rules.specs.Numbers.{cut}
 use Rattle.rules.specs.Place.{laneStart, laneByte, laneBit}
-use Rattle.rules.specs.Layout.{bankSize}
+use Rattle.rules.specs.Layout.{bankSize, setStart}
 use Rattle.rules.specs.Bank.{Bank, merge, loop}
 use Rattle.rules.proofs.Lanes.{Width, width-pos, full}
 use Rattle.control_set.specs.declared.plan.Chosen.{Chosen}
 use Rattle.control_set.specs.declared.plan.Fields.{Fields}
+use Rattle.rules.proofs.BankLayout.{set-inside}
 use Rattle.control_set.proofs.Copies.{loop-ext}
-use Rattle.control_set.specs.Plan.{Spread, copiesBy, copyLane, copyPart, copyEntry, bytesCopied}
+use Rattle.control_set.specs.Plan.{Spread, copiesBy, copyLane, copyPart, copyEntry, byteCopied, bytesCopied}
 
 -- loops one after the other, and one in the other
 loop-add : (a n : ℕ) (f : ℕ → Bank → Bank) (b : Bank) → loop (a + n) f b ≡ loop n (λ t. f (a + t)) (loop a f b)
@@ -97,10 +98,13 @@ module _ (c : Chosen) (f : Fields) (g : Spread f) (size : ℕ) (large : bankSize
     (all : (i : ℕ) → 1 ≤ i → i ≤ 8 → copiesBy c (f .mask) b₀ i ≡ true) where
   -- one byte of an entry's fields
   abbrev put : ℕ → Bank → Bank
-  put k b = set b (512 + (f .offset + k)) (getD b₀ (256 * c .set + (f .offset + k)) 0)
+  put k b = byteCopied (c .set) f b₀ k b
+
+  in-active : (k : ℕ) → k < f .parts * f .width → setStart 2 + (f .offset + k) < size
+  in-active k h = omega (arith, set-inside 2 (f .offset + k) (omega arith) (omega (arith, g .inside)))
 
   put-bytes : (k : ℕ) → k < f .parts * f .width → (b : Bank) → Bytes size b → Bytes size (put k b)
-  put-bytes k h b s = bytes-set (512 + (f .offset + k)) _ (omega (arith, g .inside)) (source .byte (256 * c .set + (f .offset + k))) s
+  put-bytes k h b s = bytes-set (setStart 2 + (f .offset + k)) _ (in-active k h) (source .byte (setStart (c .set) + (f .offset + k))) s
 
   module _ (p : ℕ) (hp : p < f .parts) (d : Width (f .width)) where
     -- lane k × n + t of a part lies in its byte k, from bit t × W on
@@ -120,10 +124,10 @@ module _ (c : Chosen) (f : Fields) (g : Spread f) (size : ℕ) (large : bankSize
 
     -- a byte's place, and the byte that it takes
     abbrev at : ℕ → ℕ
-    at k = 512 + (f .offset + (p * f .width + k))
+    at k = setStart 2 + (f .offset + (p * f .width + k))
 
     abbrev from : ℕ → ℕ
-    from k = getD b₀ (256 * c .set + (f .offset + (p * f .width + k))) 0
+    from k = getD b₀ (setStart (c .set) + (f .offset + (p * f .width + k))) 0
 
     in-parts : (k : ℕ) → k < f .width → p * f .width + k < f .parts * f .width
     in-parts k hk = digits-lt hp hk
@@ -145,7 +149,7 @@ module _ (c : Chosen) (f : Fields) (g : Spread f) (size : ℕ) (large : bankSize
             → (loop (d .lanes) (λ t. copyLane c f b₀ p (suc (k * d .lanes + t))) x ≡ put (p * f .width + k) x) × Bytes size (put (p * f .width + k) x)
         one k x hk hx = (
           loop-ext (d .lanes) _ (turn (f .width) (at k) (from k)) x (λ t y ht. lane-is k t hk ht y)
-              ∙ filled (f .width) (d .lanes) (at k) (from k) (d .fills) x (omega (arith, hx .long, in-parts k hk, g .inside)) (source .byte _) (hx .byte (at k)),
+              ∙ filled (f .width) (d .lanes) (at k) (from k) (d .fills) x (omega (arith, hx .long, in-active (p * f .width + k) (in-parts k hk))) (source .byte _) (hx .byte (at k)),
           put-bytes (p * f .width + k) (in-parts k hk) x hx,
         )
 

@@ -5,7 +5,7 @@ use lib.IntN.{ℤ}
 use lib.Signed.{mag}
 use Rattle.rules.specs.Numbers.{cut}
 use Rattle.rules.specs.Place.{laneByte, laneBit}
-use Rattle.rules.specs.Layout.{bankSize, setStart}
+use Rattle.rules.specs.Layout.{bankSize, HasBytes, setStart}
 use Rattle.rules.specs.Bank.{Bank, merge}
 use Rattle.rules.proofs.Lanes.{Width}
 
@@ -21,7 +21,7 @@ byteIn offset p w i = offset + p * w + laneByte w i
 -- a field of a whole bank: of a set and a lane that exist, in its set's 256 bytes
 pub record Spot (b : Bank) (s offset p w i : ℕ) : Type 0 where
   pub size : bankSize ≤ length b
-  pub isSet : s < 3
+  pub isSet : HasBytes s
   pub whole : Width w
   pub low : 1 ≤ i
   pub top : i ≤ 8

@@ -4,18 +4,21 @@ use mathlib.Core.Bool.{Bool, false, _&&_, cond}
 use mathlib.Core.List.{List}
 use Prim.Native.Nat.{ℕ, _%_, _≤_, _<_}
 use lib.Dec.{ltb}
+use lib.ListN.{length}
 use Rattle.rules.specs.declared.Loaded.the-variants.{Accepted as accepted}
 use Rattle.rules.specs.declared.Answer.{Answer}
 use Rattle.rules.specs.declared.Answer.the-variants.{Yes as saysYes, Refused as refused}
 use Rattle.rules.specs.declared.Refusal.the-variants.{Plain as plain}
 use Rattle.rules.specs.Load.{loadOf, mapOf}
 use Rattle.rules.specs.Place.{isSet, lengthOf}
-use Rattle.rules.specs.Layout.{bankSize}
+use Rattle.rules.specs.Layout.{bankSize, HasBytes}
 use Rattle.rules.specs.Refuse.{Verdict, refuses, firstOf, bankOrder}
 use Rattle.rules.specs.Bank.{fieldBits}
 use Rattle.rules.specs.Demands.{Accepted}
 use Rattle.descriptor.specs.declared.Found.{Found}
 use Rattle.descriptor.specs.declared.Found.the-variants.{In as isIn, Refused as notFound}
+use Rattle.descriptor.specs.declared.Named.{Named}
+use Rattle.descriptor.specs.Find.{InMap}
 use Rattle.control_set.specs.declared.gate.Byte.{Byte}
 use Rattle.control_set.specs.declared.gate.Byte.the-variants.{Has as has, Refused as stops}
 use Rattle.control_set.specs.declared.gate.Gate.{Gate}
@@ -30,6 +33,17 @@ abbrev pub Gated : ℕ → List ℕ → List ℕ → ℕ → Gate → Type 0
 Gated count rw ro size (opens n k c t) = Opened count rw ro size n k c t
 Gated count rw ro size (shuts r) = (rest : List Verdict) → bankOrder count rw ro size rest ≡ refuses r
 
+-- past 9, 8 and 1 to 7 with an entry of the map
+pub record Entered (count : ℕ) (rw ro : List ℕ) (size e : ℕ) (f : Named) : Type 0 where
+  pub size-is : bankSize ≤ size
+  pub named : InMap count rw ro e f
+
+-- refused, where what follows gives 10 to an entry that doesn't exist
+abbrev pub EntryGated : ℕ → List ℕ → List ℕ → ℕ → ℕ → Found → Type 0
+EntryGated count rw ro size e (isIn f) = Entered count rw ro size e f
+EntryGated count rw ro size e (notFound r) =
+    (rest : List Verdict) → (length (mapOf count rw ro .entries) ≤ e → firstOf rest ≡ refuses (plain 10)) → bankOrder count rw ro size rest ≡ refuses r
+
 -- the answer of a call that names an entry, where none is found
 abbrev pub refusedOf : Found → Answer
 refusedOf (isIn f) = saysYes
@@ -39,7 +53,7 @@ refusedOf (notFound r) = refused r
 pub record Reached (count : ℕ) (rw ro : List ℕ) (size s k : ℕ) (fields : Bool) : Type 0 where
   pub size-is : bankSize ≤ size
   pub ok : Accepted count rw ro
-  pub isSet : s < 3
+  pub isSet : HasBytes s
   pub low : k < lengthOf (mapOf count rw ro) s
   pub top : k < 256
   pub bits : (x : ℕ) → fieldBits (mapOf count rw ro) s k x ≡ cond fields (x % 256) 0

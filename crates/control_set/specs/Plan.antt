@@ -11,7 +11,7 @@ use Rattle.rules.specs.Descriptor.{isApp, hasApp}
 use Rattle.rules.specs.Numbers.{bitOf, any}
 use Rattle.rules.specs.Load.{rwEntries}
 use Rattle.rules.specs.Place.{nothing, partsOf, widthOf}
-use Rattle.rules.specs.Layout.{bankSize}
+use Rattle.rules.specs.Layout.{bankSize, setStart}
 use Rattle.rules.specs.Refuse.{chooses}
 use Rattle.rules.specs.Bank.{Bank, appSelIn, loop}
 use Rattle.rules.specs.Demands.{Accepted}
@@ -102,6 +102,8 @@ unfoldable pub copyAmong : Chosen → List Entry → Bank → Bank → Bank
 copyAmong c l b₀ = loop (length l) (λ e. copyEntry c (fieldsOf (getD l e nothing)) b₀)
 
 -- the copy of every lane of an entry, byte by byte
+abbrev pub byteCopied : ℕ → Fields → Bank → ℕ → Bank → Bank
+byteCopied staged f b₀ k b = set b (setStart 2 + (f .offset + k)) (getD b₀ (setStart staged + (f .offset + k)) 0)
+
 unfoldable pub bytesCopied : ℕ → Fields → Bank → Bank → Bank
-bytesCopied staged f b₀ =
-    loop (f .parts * f .width) (λ k. λ b. set b (512 + (f .offset + k)) (getD b₀ (256 * staged + (f .offset + k)) 0))
+bytesCopied staged f b₀ = loop (f .parts * f .width) (byteCopied staged f b₀)

@@ -3,10 +3,12 @@ ghost use mathlib.Core.Path.{_≡_};
 ghost use Prim.Native.Nat.{_^_, _≤_, _<_};
 ghost use lib.ListN.{length, getD, set};
 ghost use Rattle.rules.specs.Load.{rwEntries};
+ghost use Rattle.rules.specs.Layout.{bankSize};
 ghost use Rattle.rules.specs.Bank.{merge};
 ghost use Rattle.control_set.specs.Field.{Room, Spot, bitsAt, withBits};
 ghost use Rattle.control_set.specs.Plan.{Asked, Listed, Spread, Wants, Clear, lacksBy, copyLane, copyPart, copyEntry, copyAmong, bytesCopied};
 ghost use Rattle.descriptor.specs.Rows.{Tables};
+use crate::bank::byte_of;
 use crate::bank::place_of;
 use crate::bank::read_field;
 use crate::field::merged;
@@ -16,6 +18,8 @@ use crate::plan::copies;
 use crate::plan::fields_at;
 use descriptor::byte_from;
 use descriptor::mask_bytes;
+use rules::ACTIVE_END;
+use rules::ACTIVE_START;
 
 // The copier: bits into a byte of the active set, which is all that it is lent.
 fn put_bits(active: &mut [u8], at: usize, bit: usize, width: usize, bits: u8)
@@ -39,7 +43,13 @@ fn copy_field(bank: &mut [u8], staged: usize, offset: usize, part: usize, width:
 {
     let bits = read_field(bank, staged, offset, part, width, lane);
     let p = place_of(offset, part, width, lane);
-    put_bits(&mut bank[512..768], p.byte, p.bit, width, bits);
+    put_bits(
+        &mut bank[ACTIVE_START..ACTIVE_END],
+        p.byte,
+        p.bit,
+        width,
+        bits,
+    );
 }
 
 // A field of a lane, if it is copied.
@@ -81,14 +91,14 @@ fn copy_entry(chosen: Chosen, f: Fields, bank: &mut [u8])
 
 // All bytes of an entry's fields.
 fn copy_bytes(staged: usize, f: Fields, bank: &mut [u8])
-    requires { ⌜ (staged < 2) × Spread f × (784 ≤ length (now bank)) ⌝ }
+    requires { ⌜ (staged < 2) × Spread f × (bankSize ≤ length (now bank)) ⌝ }
     ensures { λ _. ⌜ now (bank .exit) ≡ bytesCopied staged f (now (bank .entry)) (now (bank .entry)) ⌝ }
 {
     let size = f.parts * f.width;
     let mut k = 0;
     while k < size {
-        let byte = bank[256 * staged + (f.offset + k)];
-        put_byte(&mut bank[512..768], f.offset + k, byte);
+        let byte = bank[byte_of(staged, f.offset + k)];
+        put_byte(&mut bank[ACTIVE_START..ACTIVE_END], f.offset + k, byte);
         k += 1;
     }
 }

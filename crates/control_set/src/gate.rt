@@ -1,10 +1,13 @@
 // What every call on a bank checks first: 9, 8, then 1 to 7.
-ghost use Rattle.control_set.specs.Gate.{Gated, ByteGated};
+ghost use Rattle.control_set.specs.Gate.{Gated, EntryGated, ByteGated};
 use descriptor::Covered;
+use descriptor::Found;
 use descriptor::cover;
+use descriptor::find;
 use descriptor::limits;
 use descriptor::load;
 use descriptor::shape_of;
+use rules::BANK_SIZE;
 use rules::Loaded;
 use rules::Refusal;
 
@@ -25,7 +28,7 @@ pub fn admit(count: usize, rw: &[u8], ro: &[u8], size: usize) -> Gate
     if !limits(count, rw, ro) {
         return Gate::Refused(Refusal::Plain(9));
     }
-    if size < 784 {
+    if size < BANK_SIZE {
         return Gate::Refused(Refusal::Plain(8));
     }
     let loaded = load(count, rw, ro);
@@ -43,6 +46,13 @@ pub fn admit(count: usize, rw: &[u8], ro: &[u8], size: usize) -> Gate
         },
         Loaded::Refused(r) => Gate::Refused(r),
     }
+}
+
+// The same for a call that names an entry, with what it needs of the entry; 10 for an entry that doesn't exist.
+pub fn admit_entry(count: usize, rw: &[u8], ro: &[u8], size: usize, entry: usize) -> Found
+    ensures { λ r. ⌜ EntryGated count (now (rw .entry)) (now (ro .entry)) size entry r ⌝ }
+{
+    find(count, rw, ro, size < BANK_SIZE, entry)
 }
 
 // Whether a byte of a set has fields, for a call that names it; or the refusal.
@@ -65,7 +75,7 @@ pub fn admit_byte(
     if !limits(count, rw, ro) {
         return Byte::Refused(Refusal::Plain(9));
     }
-    if size < 784 {
+    if size < BANK_SIZE {
         return Byte::Refused(Refusal::Plain(8));
     }
     let covered = cover(count, rw, ro, offset);

@@ -3,6 +3,7 @@ ghost use mathlib.Core.Path.{_≡_};
 ghost use Prim.Native.Nat.{_≤_};
 ghost use lib.ListN.{length};
 ghost use Rattle.rules.specs.declared.Call.{Call};
+ghost use Rattle.rules.specs.Layout.{bankSize};
 ghost use Rattle.rules.specs.Bank.{freshBank, freshStep, bankStep};
 ghost use Rattle.rules.specs.Beside.{weightCall};
 ghost use Rattle.control_set.specs.Gate.{refusedOf, byteRefused};
@@ -16,6 +17,8 @@ mod number; // numbers and bits
 mod plan; // 13 and 14
 
 use crate::accept::accepts;
+use crate::bank::app_sel_at;
+use crate::bank::byte_of;
 use crate::bank::read_field;
 use crate::bank::write_field;
 use crate::copy::copy_all;
@@ -23,6 +26,7 @@ use crate::gate::Byte;
 use crate::gate::Gate;
 use crate::gate::admit;
 use crate::gate::admit_byte;
+use crate::gate::admit_entry;
 use crate::number::bits_of;
 use crate::number::number_of;
 use crate::number::weight_of;
@@ -32,22 +36,22 @@ use crate::plan::lowest_bad;
 use crate::plan::lowest_lacking;
 use crate::plan::wanted;
 use descriptor::Found;
-use descriptor::find;
 use descriptor::table::CLASSES;
 use descriptor::table::ROWS;
 use descriptor::table::VALUES;
 use rules::Answer;
+use rules::BANK_SIZE;
 use rules::Call;
 use rules::Loaded;
 use rules::Refusal;
 
-// Clears the 784 bytes of a bank.
+// Clears a bank.
 fn clear(bank: &mut [u8])
-    requires { ⌜ 784 ≤ length (now bank) ⌝ }
+    requires { ⌜ bankSize ≤ length (now bank) ⌝ }
     ensures { λ _. ⌜ now (bank .exit) ≡ freshBank (now (bank .entry)) ⌝ }
 {
     let mut i = 0;
-    while i < 784 {
+    while i < BANK_SIZE {
         bank[i] = 0;
         i += 1;
     }
@@ -104,7 +108,7 @@ pub fn select(
     if count < app {
         return Answer::Refused(Refusal::Plain(12));
     }
-    bank[768 + 8 * set + (lane - 1)] = app as u8;
+    bank[app_sel_at(set, lane)] = app as u8;
     Answer::Yes
 }
 
@@ -133,7 +137,7 @@ pub fn write(
     ensures answer { λ r. ⌜ r ≡ bankStep count (now (rw .entry)) (now (ro .entry)) (Call.Write set entry part lane value) (now (bank .entry)) .0 ⌝ }
     ensures after { λ _. ⌜ now (bank .exit) ≡ bankStep count (now (rw .entry)) (now (ro .entry)) (Call.Write set entry part lane value) (now (bank .entry)) .1 ⌝ }
 {
-    let found = find(count, rw, ro, bank.len(), entry);
+    let found = admit_entry(count, rw, ro, bank.len(), entry);
     let Found::In(f) = found else {
         return refused(found);
     };
@@ -164,7 +168,7 @@ pub fn read(
 ) -> Answer
     ensures answer { λ r. ⌜ r ≡ bankStep count (now (rw .entry)) (now (ro .entry)) (Call.Read set entry part lane) (now (bank .entry)) .0 ⌝ }
 {
-    let found = find(count, rw, ro, bank.len(), entry);
+    let found = admit_entry(count, rw, ro, bank.len(), entry);
     let Found::In(f) = found else {
         return refused(found);
     };
@@ -209,10 +213,10 @@ pub fn byte_write(
         return Answer::Refused(Refusal::Plain(11));
     }
     if fields {
-        bank[256 * set + offset] = value;
+        bank[byte_of(set, offset)] = value;
         return Answer::Yes;
     }
-    bank[256 * set + offset] = 0;
+    bank[byte_of(set, offset)] = 0;
     Answer::Yes
 }
 
@@ -232,7 +236,7 @@ pub fn byte_read(
         return byte_refused(gate);
     };
     if shown {
-        return Answer::Number(wide(bank[256 * set + offset]));
+        return Answer::Number(wide(bank[byte_of(set, offset)]));
     }
     Answer::Number(0)
 }
@@ -251,7 +255,7 @@ pub fn publish(
     ensures answer { λ r. ⌜ r ≡ bankStep count (now (rw .entry)) (now (ro .entry)) (Call.Publish entry part lane value) (now (bank .entry)) .0 ⌝ }
     ensures after { λ _. ⌜ now (bank .exit) ≡ bankStep count (now (rw .entry)) (now (ro .entry)) (Call.Publish entry part lane value) (now (bank .entry)) .1 ⌝ }
 {
-    let found = find(count, rw, ro, bank.len(), entry);
+    let found = admit_entry(count, rw, ro, bank.len(), entry);
     let Found::In(f) = found else {
         return refused(found);
     };
@@ -344,7 +348,7 @@ pub fn perform(count: usize, rw: &[u8], ro: &[u8], bank: &mut [u8], call: Call) 
 pub fn weight(count: usize, rw: &[u8], ro: &[u8], bank: &[u8], entry: usize, lane: usize) -> Answer
     ensures { λ r. ⌜ r ≡ weightCall count (now (rw .entry)) (now (ro .entry)) (now (bank .entry)) entry lane ⌝ }
 {
-    let found = find(count, rw, ro, bank.len(), entry);
+    let found = admit_entry(count, rw, ro, bank.len(), entry);
     let Found::In(f) = found else {
         return refused(found);
     };

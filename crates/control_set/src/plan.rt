@@ -10,6 +10,7 @@ ghost use Rattle.rules.specs.Bank.{appSelIn};
 ghost use Rattle.descriptor.specs.Wide.{standingAt};
 ghost use Rattle.descriptor.specs.Rows.{Tables, classes as classTable};
 ghost use Rattle.control_set.specs.Plan.{Asked, Listed, Spread, Wants, joinedBy, fieldsOf, copiesBy, lacksBy, badAt, badIn, badAmong, Least};
+use crate::bank::app_sel_at;
 use crate::bank::read_field;
 use descriptor::byte_from;
 use descriptor::listed_from;
@@ -99,7 +100,7 @@ fn app_of(set: usize, lane: usize, bank: &[u8]) -> usize
     requires { ⌜ (set < 2) × (1 ≤ lane) × (lane ≤ 8) × (bankSize ≤ length (now bank)) ⌝ }
     ensures { λ r. ⌜ r ≡ appSelIn (now (bank .entry)) set lane ⌝ }
 {
-    bank[768 + 8 * set + (lane - 1)] as usize
+    bank[app_sel_at(set, lane)] as usize
 }
 
 // Bit n of a mask means AppSel n + 1.

@@ -4,32 +4,23 @@ use mathlib.Core.Bool.{Bool, true, false, not, cond}
 use mathlib.Core.List.{List, _∷_}
 use Prim.Native.Nat.{ℕ, _+_, _≤_, _<_}
 use native.Mathlib.Omega.{arith}
-use borrow.Author.Tests.{le-ltb}
 use lib.ListN.{length}
 use Rattle.rules.specs.declared.Refusal.{Refusal}
 use Rattle.rules.specs.declared.Refusal.the-variants.{Plain as plain}
 use Rattle.rules.specs.Descriptor.{maskBytes, entryAt}
 use Rattle.rules.specs.Load.{Map, sized, mapOf}
-use Rattle.rules.specs.Layout.{bankSize}
 use Rattle.rules.specs.Place.{entry, isRW, partsOf, widthOf, signedOf}
-use Rattle.rules.specs.Refuse.{Verdict, passes, refuses, firstOf, check9, check8, check1to7, orderOf, bankOrder}
+use Rattle.rules.specs.Refuse.{Verdict, passes, refuses, firstOf, check9, check1to7, orderOf}
 use Rattle.rules.specs.Beside.{entryVerdict}
 use Rattle.rules.specs.Demands.{Accepted}
 use Rattle.rules.proofs.EntryParts.{verdict-passes}
 use Rattle.rules.proofs.EntryHeads.{Head, entry-head, strings-short}
-use Rattle.rules.proofs.Steps.{bank-order-9, bank-order-8}
 use Rattle.descriptor.specs.declared.Located.the-variants.{At as at, Refused as nowhere}
 use Rattle.descriptor.specs.declared.Named.{Named}
 use Rattle.descriptor.specs.declared.Found.the-variants.{In as isIn, Refused as notFound}
 use Rattle.descriptor.specs.Locate.{located, locatedOf}
 use Rattle.descriptor.specs.Wide.{standingAt}
-use Rattle.descriptor.specs.Find.{mostBy, namedOf, found, foundOf}
-
--- an entry of the map of strings that load, and what a call needs of it
-pub record InMap (count : ℕ) (rw ro : List ℕ) (e : ℕ) (f : Named) : Type 0 where
-  pub ok : Accepted count rw ro
-  pub there : e < length (mapOf count rw ro .entries)
-  pub is : namedOf (not (isRW (mapOf count rw ro) e)) (entry (mapOf count rw ro) e) ≡ f
+use Rattle.descriptor.specs.Find.{mostBy, namedOf, InMap, found, toldOrder, foundOf}
 
 -- what is found of it
 module _ (count : ℕ) (first last : List ℕ) {e : ℕ} {f : Named} (z : InMap count first last e f) where
@@ -61,10 +52,10 @@ module _ (count : ℕ) (first last : List ℕ) {e : ℕ} {f : Named} (z : InMap 
   unfolding namedOf
   step-is = ap (λ (x : Named). x .step) (sym (z .is))
 
--- a call on a bank that is large enough is refused as one that takes none
-pub no-check8 : (count : ℕ) (first last : List ℕ) (size : ℕ) (rest : List Verdict) → bankSize ≤ size → bankOrder count first last size rest ≡ orderOf count first last rest
-unfolding bankOrder orderOf check8
-no-check8 count first last size rest l = rw (le-ltb size bankSize l) (go (check9 count first last))
+-- a call whose bank is not too short is refused as one that takes none
+pub no-check8 : (count : ℕ) (first last : List ℕ) (rest : List Verdict) → toldOrder count first last false rest ≡ orderOf count first last rest
+unfolding toldOrder orderOf
+no-check8 count first last rest = go (check9 count first last)
   where
     go : (v : Verdict) → firstOf (v ∷ passes ∷ check1to7 count first last ∷ rest) ≡ firstOf (v ∷ check1to7 count first last ∷ rest)
     go passes = refl
@@ -75,25 +66,25 @@ pub found-stops : (v : Verdict) (f : Named) (r : Refusal) → found v (isIn f) �
 found-stops passes f r q = let o : _≡_ {A = ℕ} 0 1 = cc in absurd (omega arith)
 found-stops (refuses r′) f r q = let z : r′ ≡ r = cc in rw z refl
 
-module _ (count : ℕ) (first last : List ℕ) (size e : ℕ) where
+module _ (count : ℕ) (first last : List ℕ) (short : Bool) (e : ℕ) where
   abbrev m : Map
   m = mapOf count first last
 
-  -- 9 and 8 of a bank that is too small
-  pub found-9 : sized count first last ≡ false → notFound (plain 9) ≡ foundOf count first last size e
-  unfolding foundOf
-  found-9 h = rw (bank-order-9 count first last _ size h) refl
+  -- 9 and 8 of a bank that is too short
+  pub found-9 : sized count first last ≡ false → notFound (plain 9) ≡ foundOf count first last short e
+  unfolding foundOf toldOrder check9
+  found-9 h = rw h refl
 
-  pub found-8 : sized count first last ≡ true → size < bankSize → notFound (plain 8) ≡ foundOf count first last size e
-  unfolding foundOf
-  found-8 h l = rw (bank-order-8 count first last _ size h l) refl
+  pub found-8 : sized count first last ≡ true → short ≡ true → notFound (plain 8) ≡ foundOf count first last short e
+  unfolding foundOf toldOrder check9
+  found-8 h l = rw (h, l) refl
 
-  module _ (l : bankSize ≤ size) where
-    verdict : foundOf count first last size e ≡ found (entryVerdict count first last e) (isIn (namedOf (not (isRW m e)) (entry m e)))
+  module _ (l : short ≡ false) where
+    verdict : foundOf count first last short e ≡ found (entryVerdict count first last e) (isIn (namedOf (not (isRW m e)) (entry m e)))
     unfolding foundOf entryVerdict
-    verdict = rw (no-check8 count first last size _ l) refl
+    verdict = rw (l, no-check8 count first last) refl
 
-    pub located-refused-found : (r : Refusal) → locatedOf count first last e ≡ nowhere r → notFound r ≡ foundOf count first last size e
+    pub located-refused-found : (r : Refusal) → locatedOf count first last e ≡ nowhere r → notFound r ≡ foundOf count first last short e
     unfolding locatedOf
     located-refused-found r h = go (entryVerdict count first last e) h ∙ sym verdict
       where
@@ -104,7 +95,7 @@ module _ (count : ℕ) (first last : List ℕ) (size e : ℕ) where
 
     -- the bytes at its start say what it is
     module _ (x : Bool) (s n o : ℕ) (h : locatedOf count first last e ≡ at x s n o) where
-      pub located-found : (isIn (namedOf x (entryAt (maskBytes count) (cond x last first) (standingAt s o))) ≡ foundOf count first last size e) × (s ≤ 120)
+      pub located-found : (isIn (namedOf x (entryAt (maskBytes count) (cond x last first) (standingAt s o))) ≡ foundOf count first last short e) × (s ≤ 120)
       unfolding locatedOf
       located-found = let z = go (entryVerdict count first last e) refl h in (z .0 ∙ sym verdict, z .1)
         where
@@ -114,9 +105,9 @@ module _ (count : ℕ) (first last : List ℕ) (size e : ℕ) where
           side true d = (ap (λ y. isIn (namedOf false y)) (sym (d .says)), d .room)
           side false d = (ap (λ y. isIn (namedOf true y)) (sym (d .says)), d .room)
 
-          short : (b : Bool) → Accepted count first last → length (cond b first last) ≤ 120
-          short true ok = strings-short count first last ok .0
-          short false ok = strings-short count first last ok .1
+          limit : (b : Bool) → Accepted count first last → length (cond b first last) ≤ 120
+          limit true ok = strings-short count first last ok .0
+          limit false ok = strings-short count first last ok .1
 
           go : (v : Verdict) → entryVerdict count first last e ≡ v
               → located v (at (not (isRW m e)) (entry m e .start) (entry m e .length) (entry m e .offset)) ≡ at x s n o
@@ -127,15 +118,15 @@ module _ (count : ℕ) (first last : List ℕ) (size e : ℕ) where
               let d : entry m e .offset ≡ o = cc in
               let (ok, lt) = verdict-passes count first last e p in
               let (y, z) = side (isRW m e) (entry-head count first last ok e lt) in
-              rw (← a, ← b, ← d) (y, omega (arith, short (isRW m e) ok))
+              rw (← a, ← b, ← d) (y, omega (arith, limit (isRW m e) ok))
           go (refuses r) p q = let z : _≡_ {A = ℕ} 0 1 = cc in absurd (omega arith)
 
     -- for callers
 
-    pub found-refused : (r : Refusal) → foundOf count first last size e ≡ notFound r → entryVerdict count first last e ≡ refuses r
+    pub found-refused : (r : Refusal) → foundOf count first last short e ≡ notFound r → entryVerdict count first last e ≡ refuses r
     found-refused r h = found-stops (entryVerdict count first last e) _ r (sym verdict ∙ h)
 
-    pub found-in : (f : Named) → foundOf count first last size e ≡ isIn f → InMap count first last e f
+    pub found-in : (f : Named) → foundOf count first last short e ≡ isIn f → InMap count first last e f
     found-in f h = go (entryVerdict count first last e) refl (sym verdict ∙ h)
       where
         go : (v : Verdict) → entryVerdict count first last e ≡ v → found v (isIn (namedOf (not (isRW m e)) (entry m e))) ≡ isIn f → InMap count first last e f

@@ -1,7 +1,8 @@
--- What a call needs of the entry that it names, refused as a call on a bank is; and what the table says of an ID.
+-- What a call needs of the entry that it names, refused as a call that is told of its bank is; and what the table says of an ID.
+use mathlib.Core.Path.{_≡_}
 use mathlib.Core.Bool.{Bool, _&&_, _||_, not, cond}
 use mathlib.Core.List.{List, [], _∷_}
-use Prim.Native.Nat.{ℕ}
+use Prim.Native.Nat.{ℕ, _<_}
 use lib.Bits.{bitAnd}
 use lib.IntN.{ℤ, pos, negsuc}
 use lib.Signed.{leZ}
@@ -13,7 +14,8 @@ use Rattle.rules.specs.Parameter.{codes, rowOf}
 use Rattle.rules.specs.Load.{mapOf}
 use Rattle.rules.specs.Place.{entry, isRW, partsOf, widthOf, signedOf}
 use Rattle.rules.specs.Accept.{inCodes}
-use Rattle.rules.specs.Refuse.{Verdict, passes, refuses, refuseIf, bankOrder}
+use Rattle.rules.specs.Refuse.{Verdict, passes, refuses, refuseIf, firstOf, check9, check1to7}
+use Rattle.rules.specs.Demands.{Accepted}
 use Rattle.descriptor.specs.declared.Found.{Found}
 use Rattle.descriptor.specs.declared.Found.the-variants.{In as isIn, Refused as notFound}
 use Rattle.descriptor.specs.declared.Named.{Named}
@@ -49,6 +51,12 @@ namedOf inRO e =
       step = e .step;
     }
 
+-- an entry of the map of strings that load, and what a call needs of it
+pub record InMap (count : ℕ) (rw ro : List ℕ) (e : ℕ) (f : Named) : Type 0 where
+  pub ok : Accepted count rw ro
+  pub there : e < length (mapOf count rw ro .entries)
+  pub is : namedOf (not (isRW (mapOf count rw ro) e)) (entry (mapOf count rw ro) e) ≡ f
+
 -- the values that its fields accept
 unfoldable pub acceptedBy : Named → ℤ → Bool
 acceptedBy f v = (leZ (f .least) v && leZ v (f .most)) && (eqb (f .width) 8 || inCodes codes (f .listed) v)
@@ -57,10 +65,14 @@ abbrev pub found : Verdict → Found → Found
 found passes x = x
 found (refuses r) x = notFound r
 
-unfoldable pub foundOf : ℕ → List ℕ → List ℕ → ℕ → ℕ → Found
-foundOf count rw ro size e =
+-- the order of a call that is told whether its bank is too short
+unfoldable pub toldOrder : ℕ → List ℕ → List ℕ → Bool → List Verdict → Verdict
+toldOrder count rw ro short rest = firstOf (check9 count rw ro ∷ refuseIf short (plain 8) ∷ check1to7 count rw ro ∷ rest)
+
+unfoldable pub foundOf : ℕ → List ℕ → List ℕ → Bool → ℕ → Found
+foundOf count rw ro short e =
     found
-    (bankOrder count rw ro size (refuseIf (not (ltb e (length (mapOf count rw ro .entries)))) (plain 10) ∷ []))
+    (toldOrder count rw ro short (refuseIf (not (ltb e (length (mapOf count rw ro .entries)))) (plain 10) ∷ []))
     (isIn (namedOf (not (isRW (mapOf count rw ro) e)) (entry (mapOf count rw ro) e)))
 
 -- parts and bits a lane, by a row and by an ID

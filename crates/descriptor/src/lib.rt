@@ -178,11 +178,12 @@ pub enum Found {
     Refused(Refusal),
 }
 
-// The entry of a number, for a call on a bank of a size: 9, 8, then 1 to 7, and 10 for an entry that doesn't exist.
-pub fn find(count: usize, rw: &[u8], ro: &[u8], size: usize, entry: usize) -> Found
-    ensures { λ r. ⌜ r ≡ foundOf count (now (rw .entry)) (now (ro .entry)) size entry ⌝ }
+// The entry of a number, for a call that is told whether its bank is too short: 9, 8, then 1 to 7, and 10 for an entry that
+// doesn't exist.
+pub fn find(count: usize, rw: &[u8], ro: &[u8], short: bool, entry: usize) -> Found
+    ensures { λ r. ⌜ r ≡ foundOf count (now (rw .entry)) (now (ro .entry)) short entry ⌝ }
 {
-    if size < 784 {
+    if short {
         if !limits(count, rw, ro) {
             return Found::Refused(Refusal::Plain(9));
         }

@@ -14,7 +14,8 @@ use Rattle.rules.specs.Beside.{placeOf}
 use Rattle.rules.proofs.EntryHeads.{entry-fits}
 use Rattle.rules.proofs.PlaceCalls.{place-10, place-11, place-at}
 use Rattle.descriptor.specs.declared.Named.{Named}
-use Rattle.descriptor.proofs.Finds.{InMap, offset-is, parts-is, width-is, side-is}
+use Rattle.descriptor.specs.Find.{InMap}
+use Rattle.descriptor.proofs.Finds.{offset-is, parts-is, width-is, side-is}
 use Rattle.descriptor.specs.Rows.{rowNumber}
 use Rattle.descriptor.proofs.TableRows.{row}
 

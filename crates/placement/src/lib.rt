@@ -24,8 +24,8 @@ pub fn place(
 ) -> Placed
     ensures { λ r. ⌜ r ≡ placeOf count (now (rw .entry)) (now (ro .entry)) set entry part lane ⌝ }
 {
-    // Place takes no bank: none is too small.
-    let found = find(count, rw, ro, 784, entry);
+    // Place takes no bank: none is too short.
+    let found = find(count, rw, ro, false, entry);
     match found {
         Found::Refused(r) => Placed::Refused(r),
         Found::In(f) => {

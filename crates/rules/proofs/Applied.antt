@@ -12,12 +12,12 @@ use lib.Dec.{T, T-not, eqb, eqb→eq, ltb→lt, lt→ltb}
 use Rattle.rules.specs.Load.{Map}
 use Rattle.rules.specs.Place.{entry, partsOf, signedOf, widthOf, isRW}
 use Rattle.rules.specs.Accept.{fromBits}
-use Rattle.rules.specs.Layout.{bankSize}
-use Rattle.rules.specs.Bank.{Bank, getField, putField, numberIn, withNumber, bankCopies, loop, copyField, applyBank}
+use Rattle.rules.specs.Layout.{bankSize, appSelAt}
+use Rattle.rules.specs.Bank.{Bank, appSelIn, getField, putField, numberIn, withNumber, bankCopies, loop, copyField, applyBank}
 use Rattle.rules.specs.Table.{Table, renumbered, stored}
 use Rattle.rules.proofs.Tests.{and₃, and₄, by-test, by-test₂, is-true, both-true}
 use Rattle.rules.proofs.Good.{GoodMap, rw-held}
-use Rattle.rules.proofs.Places.{Field, field-in-set, in-set}
+use Rattle.rules.proofs.Places.{Field, field-in-set, no-app}
 use Rattle.rules.proofs.Put.{eqb₄, other₄, get-put, get-put-other, get-put-any, put-elsewhere, put-size}
 use Rattle.rules.proofs.Holds.{Holds, holds-ext, field-lt, bits-of, number-fits, put-holds}
 
@@ -178,13 +178,13 @@ module _ (m : Map) (g : GoodMap m) (s lanes : ℕ) (b₀ : Bank) where
         rw (eqb→eq s′ 2 a₁) (field-copied e p i he (field-in-set 2 (omega arith) (rw-held m g 2 e he) f) a₃))
         (field-left s′ e p i f)
 
-    -- what stands past the three sets, the AppSels among it, is left
-    pub apply-past-sets : (k : ℕ) → 768 ≤ k → getD (applyBank m s lanes b₀) k 0 ≡ getD b₀ k 0
-    apply-past-sets k h =
-        apply-keeps (Sized λ b. getD b k 0 ≡ getD b₀ k 0)
-        (λ e p i b he f c (z, q). (
-          copy-size e p i b he f c z,
-          put-elsewhere m g b z 2 e p i _ f (field-lt m b₀ s e p i) k (omega (arith, in-set m g f)) ∙ q,
+    -- the AppSels are left
+    pub apply-apps : (s′ i : ℕ) → s′ < 2 → i ≤ 8 → appSelIn (applyBank m s lanes b₀) s′ i ≡ appSelIn b₀ s′ i
+    apply-apps s′ i hs hi =
+        apply-keeps (Sized λ b. appSelIn b s′ i ≡ appSelIn b₀ s′ i)
+        (λ e p i′ b he f c (z, q). (
+          copy-size e p i′ b he f c z,
+          put-elsewhere m g b z 2 e p i′ _ f (field-lt m b₀ s e p i′) (appSelAt s′ i) (no-app m g f s′ i hs hi) ∙ q,
         ))
         (size, refl)
         .1

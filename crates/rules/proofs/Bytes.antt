@@ -14,7 +14,7 @@ use Rattle.rules.specs.Numbers.{cut}
 use Rattle.rules.specs.Table.{byteFrom}
 use Rattle.rules.specs.Load.{Map}
 use Rattle.rules.specs.Place.{entry, widthOf, laneByte, fieldByte, fieldBit}
-use Rattle.rules.specs.Layout.{setStart}
+use Rattle.rules.specs.Layout.{HasBytes, setStart}
 use Rattle.rules.specs.Bank.{Bank, getField}
 use Rattle.rules.proofs.Tests.{either, is-true, is-false, by-test₂}
 use Rattle.rules.proofs.Sums.{sum-zero, sum-ext, sum-one}
@@ -32,7 +32,7 @@ cut-mod x t w h =
     ∙ ap (λ n. n / 2 ^ t) (ap (λ n. x % 2 ^ n % 2 ^ (w + t)) e ∙ mod-mod-pow x (8 - (w + t)) (w + t))
     ∙ field x w t
 
-module _ (m : Map) (s k : ℕ) (hs : s < 3) where
+module _ (m : Map) (s k : ℕ) (hs : HasBytes s) where
   -- only the bits of fields in the byte count
   pub byte-ext :
       (f h : ℕ → ℕ → ℕ → ℕ)
@@ -103,7 +103,7 @@ module _ (m : Map) (s k : ℕ) (hs : s < 3) where
 
 -- byte read of any bank: the byte if it has fields, 0 in a gap
 pub byte-of-bank :
-    (m : Map) (s k : ℕ) → s < 3 → GoodMap m → (b : Bank) → byteFrom m s k (getField m b s) ≡ cond (covered m s k) (getD b (setStart s + k) 0 % 256) 0
+    (m : Map) (s k : ℕ) → HasBytes s → GoodMap m → (b : Bank) → byteFrom m s k (getField m b s) ≡ cond (covered m s k) (getD b (setStart s + k) 0 % 256) 0
 unfolding getField
 byte-of-bank m s k hs g b =
     byte-ext m s k hs _ _ (λ e p i f q. ap (λ n. cut (getD b (setStart s + n) 0) (fieldBit (entry m e) i) (widthOf (entry m e))) q)

@@ -10,6 +10,7 @@ use Rattle.rules.specs.Numbers.{any}
 use Rattle.rules.specs.Words.{Entry}
 use Rattle.rules.specs.Load.{Map}
 use Rattle.rules.specs.Place.{entry, partsOf, widthOf, heldBy, fieldByte, covers}
+use Rattle.rules.specs.Layout.{HasBytes}
 use Rattle.rules.proofs.Tests.{and₂, both-true}
 use Rattle.rules.proofs.Any.{any-here, any-some}
 use Rattle.rules.proofs.Lanes.{Width, width-pos, LaneOf, lane-of}
@@ -83,7 +84,7 @@ module _ (m : Map) (g : GoodMap m) where
     part-lt = div-lt-iff-lt-mul (width-pos (widthOf (entry m e)) in-width) .1 (omega arith)
 
     -- each bit of such a byte lies in a field
-    pub in-field : s < 3 → (q : ℕ) → q < 8 → (p : ℕ) × (i : ℕ) × Field m s e p i × T (covers (entry m e) p i k q)
+    pub in-field : HasBytes s → (q : ℕ) → q < 8 → (p : ℕ) × (i : ℕ) × Field m s e p i × T (covers (entry m e) p i k q)
     in-field hs q hq =
         let l : LaneOf (widthOf (entry m e)) byteInPart q = lane-of (widthOf (entry m e)) byteInPart q in-width byte-lt hq in
         let here : fieldByte (entry m e) partAt (l .i) ≡ k = omega (arith, placed) in (

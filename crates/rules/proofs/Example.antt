@@ -1,7 +1,7 @@
 -- A small module on which both machines are run by computing. It also shows that the premises of demand 3 can be met.
 use mathlib.Core.Path.{_≡_, refl}
 use mathlib.Core.List.{List, [], _∷_}
-use Prim.Native.Nat.{ℕ}
+use Prim.Native.Nat.{ℕ, _+_}
 use native.Mathlib.Omega.{arith}
 use lib.IntN.{pos, negsuc}
 use lib.ListN.{replicate, length-replicate}
@@ -13,6 +13,7 @@ use Rattle.rules.specs.Load.{foldBy, foldOf, walkOf, entriesFrom, string
 use Rattle.rules.specs.Place.{partsOf, widthOf, signedOf, heldBy, lengthOf, firstOwner, ownerOf}
 use Rattle.rules.specs.Accept.{within, inCodes, accepts, toBits, fromBits}
 use Rattle.rules.specs.Refuse.{check9, check8, check1to7, exists, misdirected, unaccepted, judge, atLowest, bankOrder, orderOf}
+use Rattle.rules.specs.Layout.{bankSize, setStart, appSelStart, appSelAt}
 use Rattle.rules.specs.Bank.{Bank, getField, putField, numberIn, withNumber, fieldBits, bankLacksApp, bankCopies, bankHoldsBad, bankPlan, loop, copyField, applyBank, bankDoes, bankStep, freshBank, freshStep, runBank}
 use Rattle.rules.specs.Table.{byteFrom, tableLacksApp, tableCopies, tableHoldsBad, tablePlan, tableDoes, tableStep, runTable}
 use Rattle.rules.specs.Demands.{Accepted, bankRun, tableRun, ListAgrees}
@@ -29,7 +30,7 @@ roString = 0x12 ∷ 7 ∷ 3 ∷ 8 ∷ 0 ∷ 0xFF ∷ 2 ∷ []
 
 -- a bank of other content than 0
 abbrev bank : Bank
-bank = replicate 785 0xA5
+bank = replicate (bankSize + 1) 0xA5
 
 abbrev calls : List Call
 calls =
@@ -93,7 +94,7 @@ example-accepted = record { rwCount = 3; roCount = 1; staged = 8; active = 16; l
 
 -- the bank machine, computed
 pub example-bank : bankRun 2 rwString roString bank calls .0 ≡ answers
-unfolding sum any lowest rowOf maskBytes highFirst codesOf stepOf refuse lengthChecks contentChecks decodeAt foldBy foldOf walkOf entriesFrom stringsOf loadOf rwEntries roEntries entriesOf total mapOf partsOf widthOf signedOf heldBy lengthOf firstOwner ownerOf within inCodes accepts toBits fromBits check9 check8 check1to7 exists misdirected unaccepted judge atLowest bankOrder getField putField numberIn withNumber fieldBits bankLacksApp bankCopies bankHoldsBad bankPlan loop copyField applyBank bankDoes bankStep freshBank freshStep runBank
+unfolding sum any lowest rowOf maskBytes highFirst codesOf stepOf refuse lengthChecks contentChecks decodeAt foldBy foldOf walkOf entriesFrom stringsOf loadOf rwEntries roEntries entriesOf total mapOf partsOf widthOf signedOf heldBy lengthOf firstOwner ownerOf within inCodes accepts toBits fromBits check9 check8 check1to7 exists misdirected unaccepted judge atLowest bankOrder getField putField numberIn withNumber fieldBits bankLacksApp bankCopies bankHoldsBad bankPlan loop copyField applyBank bankDoes bankStep freshBank freshStep runBank bankSize setStart appSelStart appSelAt
 example-bank = refl
 
 -- the plain table, computed
@@ -103,4 +104,4 @@ example-table = refl
 
 -- demand 3 of this module, bank and list: its premises are met
 pub example-agrees : ListAgrees 2 rwString roString bank calls
-example-agrees = lists-agree 2 rwString roString bank example-accepted (rw (length-replicate {A = ℕ} 785 0xA5) (omega arith)) calls
+example-agrees = lists-agree 2 rwString roString bank example-accepted (rw (length-replicate {A = ℕ} (bankSize + 1) 0xA5) (omega arith)) calls

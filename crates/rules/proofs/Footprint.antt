@@ -1,6 +1,6 @@
 -- The footprint of a call on lanes: it reads and writes only bits of its lanes' fields and its lanes' AppSels.
 -- Byte calls are left out: a byte may hold fields of several lanes, and gaps, which a byte write clears.
--- The statements are here; WritesOnly and ReadsOnly prove them. What a call leaves past the 784 bytes is in Keeps.
+-- The statements are here; WritesOnly and ReadsOnly prove them. What a call leaves past the bank's size is in Keeps.
 use mathlib.Core.Path.{_≡_}
 use mathlib.Core.Bool.{Bool, true, false, not}
 use mathlib.Core.List.{List}
@@ -11,6 +11,7 @@ use Rattle.rules.specs.Words.{Call, select, write, read, byteWrite, byte
 use Rattle.rules.specs.Load.{Map, mapOf}
 use Rattle.rules.specs.Place.{entry, covers}
 use Rattle.rules.specs.Refuse.{chooses}
+use Rattle.rules.specs.Layout.{HasBytes}
 use Rattle.rules.specs.Bank.{Bank, getField, appSelIn, bankStep}
 use Rattle.rules.specs.Demands.{bitIn}
 use Rattle.rules.proofs.Places.{Field}
@@ -47,7 +48,7 @@ pub record SameLane (m : Map) (i : ℕ) (b b′ : Bank) : Type 0 where
 pub record OnlyOn (m : Map) (on : ℕ → Bool) (b after : Bank) : Type 0 where
   pub size : length after ≡ length b
   pub bits : (s k q : ℕ)
-      → s < 3
+      → HasBytes s
       → k < 256
       → ((e p i : ℕ) → Field m s e p i → T (covers (entry m e) p i k q) → T (not (on i)))
       → bitIn after s k q ≡ bitIn b s k q
@@ -67,7 +68,7 @@ SameOn m on b b′ = (i : ℕ) → 1 ≤ i → i ≤ 8 → T (on i) → SameLane
 -- two outcomes from two banks: one answer, and a lane that was the same is the same
 pub record Alike (m : Map) (b b′ : Bank) (x y : Answer × Bank) : Type 0 where
   pub answer : x .0 ≡ y .0
-  pub lanes : (i : ℕ) → SameLane m i b b′ → SameLane m i (x .1) (y .1)
+  pub lanes : (i : ℕ) → 1 ≤ i → i ≤ 8 → SameLane m i b b′ → SameLane m i (x .1) (y .1)
 
 -- any strings, any count, any two banks of one length: where the lanes that the call is on are the same, it has one outcome,
 -- whatever the other lanes and the gaps hold

@@ -9,6 +9,7 @@ use Rattle.rules.specs.Numbers.{cut, sum}
 use Rattle.rules.specs.Load.{Map}
 use Rattle.rules.specs.Place.{ownerOf}
 use Rattle.rules.specs.Bank.{isGap, fieldBits}
+use Rattle.rules.specs.Layout.{HasBytes}
 use Rattle.rules.proofs.Tests.{either, is-true, is-false}
 use Rattle.rules.proofs.Sums.{sum-zero, sum-ext}
 use Rattle.rules.proofs.Tile.{digits-sum}
@@ -16,7 +17,7 @@ use Rattle.rules.proofs.Good.{GoodMap}
 use Rattle.rules.proofs.Cover.{covered, in-covered, in-field, field-covered}
 use Rattle.rules.proofs.Owners.{Covers, covers-says, covers-owner, owner-none}
 
-module _ (m : Map) (g : GoodMap m) (s k : ℕ) (hs : s < 3) where
+module _ (m : Map) (g : GoodMap m) (s k : ℕ) (hs : HasBytes s) where
   -- each bit of a byte with fields has an owner
   owned-in : T (covered m s k) → (q : ℕ) → q < 8 → isGap (ownerOf m s k q) ≡ false
   owned-in c q hq =

@@ -1,5 +1,5 @@
 -- The relation of the two machines' states, and what keeps it: a number put, an application selected, a byte written.
-use mathlib.Core.Path.{_≡_, refl, ap, _∙_}
+use mathlib.Core.Path.{_≡_, refl, sym, ap, _∙_}
 use mathlib.Core.Bool.{_&&_, not, cond}
 use mathlib.Core.List.{List}
 use Prim.Native.Nat.{ℕ, _+_, _%_, _^_, _≤_, _<_}
@@ -14,15 +14,16 @@ use borrow.Author.Tests.{eq-eqb}
 use Rattle.rules.specs.Load.{Map}
 use Rattle.rules.specs.Place.{entry, widthOf, signedOf, holds, fieldByte, fieldBit}
 use Rattle.rules.specs.Accept.{toBits, fromBits}
-use Rattle.rules.specs.Layout.{bankSize, setStart, appSelAt}
+use Rattle.rules.specs.Layout.{bankSize, HasBytes, setStart, appSelAt}
 use Rattle.rules.specs.Bank.{Bank, appSelIn, fieldAt, getField, putField, numberIn, withNumber, fieldBits}
 use Rattle.rules.specs.Table.{Table, renumbered, stored, inByte, ownBits}
 use Rattle.rules.proofs.Tests.{and₂, and₄, by-test, is-true, is-false, from-true, both-true}
+use Rattle.rules.proofs.BankLayout.{set-inside, set-apart, app-inside, app-apart, app-no-set}
 use Rattle.rules.proofs.Lanes.{width-pos}
 use Rattle.rules.proofs.Digits.{cut-lt}
 use Rattle.rules.proofs.Codes.{fits, to-lt, from-to, to-from, from-fits}
 use Rattle.rules.proofs.Good.{GoodMap}
-use Rattle.rules.proofs.Places.{Field, field-holds, field-width, in-set, in-byte}
+use Rattle.rules.proofs.Places.{Field, field-holds, field-width, in-set, no-app, own-place, in-byte}
 use Rattle.rules.proofs.Put.{eqb₄, get-put, get-put-other, put-bytes, put-elsewhere, put-size, put-beyond, set-bytes}
 use Rattle.rules.proofs.Cover.{covered, field-covered}
 use Rattle.rules.proofs.Bytes.{cut-mod}
@@ -35,7 +36,7 @@ pub record Holds (m : Map) (tail : List ℕ) (b : Bank) (t : Table) : Type 0 whe
   pub bytes : (k : ℕ) → k < bankSize → getD b k 0 < 256
   pub fields : (s e p i : ℕ) → Field m s e p i → numberIn m b s e p i ≡ t .numbers s e p i
   pub apps : (s i : ℕ) → s < 2 → 1 ≤ i → i ≤ 8 → appSelIn b s i ≡ t .apps s i
-  pub gaps : (s k : ℕ) → s < 3 → k < 256 → T (not (covered m s k)) → getD b (setStart s + k) 0 ≡ 0
+  pub gaps : (s k : ℕ) → HasBytes s → k < 256 → T (not (covered m s k)) → getD b (setStart s + k) 0 ≡ 0
 
 -- only the fields that there are count
 pub holds-ext :
@@ -99,10 +100,9 @@ module _ (m : Map) (g : GoodMap m) (tail : List ℕ) (b : Bank) (t : Table) (r :
         ∙ from-to (widthOf (entry m e)) (wide m g b f) (signedOf (entry m e)) v hv))
         (λ ne. ap (fromBits (signedOf (entry m e′)) (widthOf (entry m e′))) (get-put-other m g b (r .size) s e p i x f x-lt s′ e′ p′ i′ f′ ne) ∙ r .fields s′ e′ p′ i′ f′)
 
-    not-here : (s′ k : ℕ) → s′ < 3 → k < 256 → T (not (covered m s′ k)) → setStart s′ + k ≡ fieldAt m s e p i → ⊥
+    not-here : (s′ k : ℕ) → HasBytes s′ → k < 256 → T (not (covered m s′ k)) → setStart s′ + k ≡ fieldAt m s e p i → ⊥
     not-here s′ k hs hk nc q =
-        let es : s′ ≡ s = omega (arith, in-set m g f) in
-        let q′ : k ≡ fieldByte (entry m e) p i = omega (arith, in-set m g f) in
+        let (es, q′) = own-place m g f s′ k hs hk q in
         T-not (covered m s′ k) nc (rw (es, q′) (field-covered m g f))
 
     pub put-holds : Holds m tail (withNumber m b s e p i v) (stored t s e p i v)
@@ -114,7 +114,7 @@ module _ (m : Map) (g : GoodMap m) (tail : List ℕ) (b : Bank) (t : Table) (r :
           bytes = put-bytes m g b (r .size) s e p i x f x-lt (r .bytes);
           fields = put-fields;
           apps = λ s′ i′ hs hi hj.
-              put-elsewhere m g b (r .size) s e p i x f x-lt (appSelAt s′ i′) (omega (arith, in-set m g f, f .set)) ∙ r .apps s′ i′ hs hi hj;
+              put-elsewhere m g b (r .size) s e p i x f x-lt (appSelAt s′ i′) (no-app m g f s′ i′ hs hj) ∙ r .apps s′ i′ hs hi hj;
           gaps = λ s′ k hs hk nc.
               put-elsewhere m g b (r .size) s e p i x f x-lt (setStart s′ + k) (not-here s′ k hs hk nc) ∙ r .gaps s′ k hs hk nc;
         }
@@ -131,11 +131,11 @@ module _ (m : Map) (g : GoodMap m) (tail : List ℕ) (b : Bank) (t : Table) (r :
   select-holds s i a hs hi hj ha =
       record {
         size = rw (length-set b (appSelAt s i) a) (r .size);
-        beyond = drop-set-lt bankSize b (appSelAt s i) a (omega arith) ∙ r .beyond;
-        bytes = set-bytes b (appSelAt s i) a (omega (arith, r .size)) ha (r .bytes);
+        beyond = drop-set-lt bankSize b (appSelAt s i) a (app-inside s i hs hj) ∙ r .beyond;
+        bytes = set-bytes b (appSelAt s i) a app-in ha (r .bytes);
         fields = λ s′ e′ p′ i′ f′.
             rw
-            (getD-set-other b (appSelAt s i) (fieldAt m s′ e′ p′ i′) a 0 (omega (arith, in-set m g f′, f′ .set)))
+            (getD-set-other b (appSelAt s i) (fieldAt m s′ e′ p′ i′) a 0 (λ q. no-app m g f′ s i hs hj (sym q)))
             (r .fields s′ e′ p′ i′ f′);
         apps = λ s′ i′ hs′ hi′ hj′.
             by-test
@@ -144,13 +144,16 @@ module _ (m : Map) (g : GoodMap m) (tail : List ℕ) (b : Bank) (t : Table) (r :
             a
             (t .apps s′ i′)
             (λ y. let (a₁, a₂) = and₂ (eqb s′ s) (eqb i′ i) y in
-            rw (eqb→eq s′ s a₁, eqb→eq i′ i a₂) (getD-set-same b (appSelAt s i) a 0 (omega (arith, r .size))))
-            (λ ne. getD-set-other b (appSelAt s i) (appSelAt s′ i′) a 0 (λ q. ne₂ s′ s i′ i ne (omega arith) (omega arith)) ∙ r .apps s′ i′ hs′ hi′ hj′);
-        gaps = λ s′ k hs′ hk nc. getD-set-other b (appSelAt s i) (setStart s′ + k) a 0 (omega arith) ∙ r .gaps s′ k hs′ hk nc;
+            rw (eqb→eq s′ s a₁, eqb→eq i′ i a₂) (getD-set-same b (appSelAt s i) a 0 app-in))
+            (λ ne. getD-set-other b (appSelAt s i) (appSelAt s′ i′) a 0 (λ q. let (es, ei) = app-apart s′ i′ s i hs′ hs hi′ hj′ hi hj q in ne₂ s′ s i′ i ne es ei) ∙ r .apps s′ i′ hs′ hi′ hj′);
+        gaps = λ s′ k hs′ hk nc. getD-set-other b (appSelAt s i) (setStart s′ + k) a 0 (λ q. app-no-set s i s′ k hs hj hs′ hk (sym q)) ∙ r .gaps s′ k hs′ hk nc;
       }
+    where
+      app-in : appSelAt s i < length b
+      app-in = omega (arith, app-inside s i hs hj, r .size)
 
   -- a byte is written: its fields take their own bits, its gaps become 0
-  module _ (s k v : ℕ) (hs : s < 3) (hk : k < 256) where
+  module _ (s k v : ℕ) (hs : HasBytes s) (hk : k < 256) where
     new : ℕ
     new = fieldBits m s k v
 
@@ -162,18 +165,17 @@ module _ (m : Map) (g : GoodMap m) (tail : List ℕ) (b : Bank) (t : Table) (r :
     new-lt = rw new-eq (by-test (λ n. n < 256) (covered m s k) (v % 256) 0 (λ _. mod-lt v (omega arith)) (λ _. omega arith))
 
     at-in : setStart s + k < length b
-    at-in = omega (arith, r .size)
+    at-in = omega (arith, set-inside s k hs hk, r .size)
 
     gap :
         (s′ k′ : ℕ)
-        → s′ < 3
+        → HasBytes s′
         → k′ < 256
         → T (not (covered m s′ k′))
         → Dec (setStart s′ + k′ ≡ setStart s + k)
         → getD (set b (setStart s + k) new) (setStart s′ + k′) 0 ≡ 0
     gap s′ k′ hs′ hk′ nc (yes q) =
-        let qs : s′ ≡ s = omega arith in
-        let qk : k′ ≡ k = omega arith in
+        let (qs, qk) = set-apart s′ k′ s k hs′ hs hk′ hk q in
         rw (q, getD-set-same b (setStart s + k) new 0 at-in, new-eq, is-false (covered m s k) (rw (qs, qk) at nc)) refl
     gap s′ k′ hs′ hk′ nc (no ne) = getD-set-other b (setStart s + k) (setStart s′ + k′) new 0 ne ∙ r .gaps s′ k′ hs′ hk′ nc
 
@@ -197,14 +199,13 @@ module _ (m : Map) (g : GoodMap m) (tail : List ℕ) (b : Bank) (t : Table) (r :
         let (a₃, a₄) = and₂ (holds m s e p i) (eqb (fieldByte (entry m e) p i) k) a₂ in
         let q : fieldByte (entry m e) p i ≡ k = eqb→eq _ _ a₄ in
         let q₁ : s′ ≡ s = eqb→eq _ _ a₁ in
-        let q₂ : fieldAt m s′ e p i ≡ setStart s + k = omega arith in
+        let q₂ : fieldAt m s′ e p i ≡ setStart s + k = rw (q, q₁) in
         rw
         (q₂, getD-set-same b (setStart s + k) new 0 at-in, new-eq, is-true (covered m s k) (rw (q, q₁) at (field-covered m g f)))
         (ap (fromBits (signedOf (entry m e)) (widthOf (entry m e))) (cut-mod v (fieldBit (entry m e) i) (widthOf (entry m e)) (in-byte m g f))))
         (λ ne. rw
         (getD-set-other b (setStart s + k) (fieldAt m s′ e p i) new 0 (λ q.
-        let q₁ : s′ ≡ s = omega (arith, in-set m g f) in
-        let q₂ : fieldByte (entry m e) p i ≡ k = omega (arith, in-set m g f) in
+        let (q₁, q₂) = set-apart s′ _ s k (f .set) hs (in-set m g f) hk q in
         T-not (eqb s′ s && inByte m s k e p i) ne
         (both-true (eqb s′ s) _ (from-true (eq-eqb s′ s q₁))
         (both-true (holds m s e p i) _ (held-here s′ e p i f q₁) (from-true (eq-eqb (fieldByte (entry m e) p i) k q₂))))))
@@ -218,9 +219,9 @@ module _ (m : Map) (g : GoodMap m) (tail : List ℕ) (b : Bank) (t : Table) (r :
     byte-holds =
         record {
           size = rw (length-set b (setStart s + k) new) (r .size);
-          beyond = drop-set-lt bankSize b (setStart s + k) new (omega arith) ∙ r .beyond;
+          beyond = drop-set-lt bankSize b (setStart s + k) new (set-inside s k hs hk) ∙ r .beyond;
           bytes = set-bytes b (setStart s + k) new at-in new-lt (r .bytes);
           fields = byte-fields;
-          apps = λ s′ i hs′ hi hj. getD-set-other b (setStart s + k) (appSelAt s′ i) new 0 (omega arith) ∙ r .apps s′ i hs′ hi hj;
+          apps = λ s′ i hs′ hi hj. getD-set-other b (setStart s + k) (appSelAt s′ i) new 0 (app-no-set s′ i s k hs′ hj hs hk) ∙ r .apps s′ i hs′ hi hj;
           gaps = λ s′ k′ hs′ hk′ nc. gap s′ k′ hs′ hk′ nc (ℕ-discrete (setStart s′ + k′) (setStart s + k));
         }

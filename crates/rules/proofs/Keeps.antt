@@ -14,9 +14,10 @@ use Rattle.rules.specs.Refuse.{Verdict, passes, refuses, decide, exists,
 use Rattle.rules.specs.Bank.{Bank, putField, withNumber, bankPlan, applyBank, bankDoes, bankStep, freshBank, freshened, freshStep}
 use Rattle.rules.specs.Demands.{Keeps}
 use Rattle.rules.proofs.Tests.{and₂}
+use Rattle.rules.proofs.BankLayout.{set-inside, app-inside}
 use Rattle.rules.proofs.Good.{GoodMap}
 use Rattle.rules.proofs.Walks.{map-good}
-use Rattle.rules.proofs.Places.{Field, in-set}
+use Rattle.rules.proofs.Places.{Field, in-bank}
 use Rattle.rules.proofs.Applied.{apply-keeps}
 use Rattle.rules.proofs.Allowed.{select-allowed, write-field, publish-field}
 use Rattle.rules.proofs.Verdicts.{first-append, Judged, judge-passes}
@@ -40,7 +41,7 @@ kept-set b at v h = record { size = length-set b at v; beyond = drop-set-lt bank
 module _ (m : Map) (g : GoodMap m) where
   kept-put : (b : Bank) (s e p i v : ℕ) → Field m s e p i → Kept b (putField m b s e p i v)
   unfolding putField
-  kept-put b s e p i v f = kept-set b _ _ (omega (arith, in-set m g f, f .set))
+  kept-put b s e p i v f = kept-set b _ _ (in-bank m g f)
 
   kept-apply : (s lanes : ℕ) (b : Bank) → Kept b (applyBank m s lanes b)
   kept-apply s lanes b = apply-keeps m g s lanes b (Kept b) (λ e p i c he f _ k. kept-then k (kept-put c 2 e p i _ f)) (kept-self b)
@@ -48,12 +49,12 @@ module _ (m : Map) (g : GoodMap m) where
   -- an accepted call
   does-keeps : (c : Call) (b : Bank) → Judged m c → Kept b (bankDoes m c b .1)
   unfolding bankDoes withNumber exists
-  does-keeps (select s i a) b j = let (hs, hi, hj, ha) = select-allowed m j in kept-set b (appSelAt s i) a (omega arith)
+  does-keeps (select s i a) b j = let (hs, hi, hj, ha) = select-allowed m j in kept-set b (appSelAt s i) a (app-inside s i hs hj)
   does-keeps (write s e p i v) b j = kept-put b s e p i _ (write-field m g j)
   does-keeps (read s e p i) b j = kept-self b
   does-keeps (byteWrite s k v) b j =
       let (h₁, h₂) = and₂ (isSet s) (ltb k (lengthOf m s)) (j .there) in
-      kept-set b (setStart s + k) _ (omega (arith, ltb→lt s 3 h₁, ltb→lt k (lengthOf m s) h₂, g .lengths s))
+      kept-set b (setStart s + k) _ (set-inside s k (ltb→lt s 3 h₁) (omega (arith, ltb→lt k (lengthOf m s) h₂, g .lengths s)))
   does-keeps (byteRead s k) b j = kept-self b
   does-keeps (publish e p i v) b j = kept-put b 2 e p i _ (publish-field m j)
   does-keeps (apply s lanes) b j = kept-apply s lanes b

@@ -29,6 +29,7 @@ pub mod ReaderRules
 pub mod Keeps
 pub mod Refusals
 pub mod Any
+pub mod BankLayout
 pub mod Places
 pub mod Cover
 pub mod Put

@@ -18,14 +18,15 @@ use Rattle.rules.specs.Load.{Map, mapOf}
 use Rattle.rules.specs.Place.{entry, widthOf, signedOf, holds, fieldBit, covers}
 use Rattle.rules.specs.Accept.{fromBits}
 use Rattle.rules.specs.Refuse.{firstOf, judge}
-use Rattle.rules.specs.Layout.{bankSize, setStart, appSelAt}
+use Rattle.rules.specs.Layout.{bankSize, HasBytes, setStart, appSelAt}
 use Rattle.rules.specs.Bank.{Bank, fieldAt, getField, numberIn, bankPlan, freshBank, bankStep, freshStep, runBank}
 use Rattle.rules.specs.Table.{Table, freshTable, tablePlan, tableStep, runTable}
 use Rattle.rules.specs.Demands.{Accepted, bitIn, Shows, bankRun, Demand3}
 use Rattle.rules.proofs.Tests.{either}
 use Rattle.rules.proofs.Good.{GoodMap}
 use Rattle.rules.proofs.Walks.{map-good, check9-passes, check1to7-passes}
-use Rattle.rules.proofs.Places.{holds-field, field-holds, in-set}
+use Rattle.rules.proofs.BankLayout.{set-inside, app-inside}
+use Rattle.rules.proofs.Places.{holds-field, field-holds, in-bank}
 use Rattle.rules.proofs.Cover.{covered, in-covered, in-field}
 use Rattle.rules.proofs.Holds.{Holds}
 use Rattle.rules.proofs.Verdicts.{first-append, first-same, judge-passes, order-open, bank-order-open, decide-both}
@@ -95,17 +96,17 @@ zero-holds m g tail n q =
       bytes = λ k l. rw (zeros-at n k tail (omega arith)) (omega arith);
       fields = λ s e p i f.
           rw
-          (zeros-at n (fieldAt m s e p i) tail (omega (arith, in-set m g f, f .set)), cut-zero (fieldBit (entry m e) i) (widthOf (entry m e)))
+          (zeros-at n (fieldAt m s e p i) tail (omega (arith, in-bank m g f)), cut-zero (fieldBit (entry m e) i) (widthOf (entry m e)))
           (zero-number (signedOf (entry m e)) (widthOf (entry m e)));
-      apps = λ s i hs l u. zeros-at n (appSelAt s i) tail (omega arith);
-      gaps = λ s k hs hk nc. zeros-at n (setStart s + k) tail (omega arith);
+      apps = λ s i hs l u. zeros-at n (appSelAt s i) tail (omega (arith, app-inside s i hs u));
+      gaps = λ s k hs hk nc. zeros-at n (setStart s + k) tail (omega (arith, set-inside s k hs hk));
     }
 
 -- what the relation shows
 module _ (m : Map) (g : GoodMap m) (tail : List ℕ) (b : Bank) (t : Table) (r : Holds m tail b t) where
   other-bits :
       (s k q : ℕ)
-      → s < 3
+      → HasBytes s
       → k < 256
       → q < 8
       → ((e p i : ℕ) → T (holds m s e p i) → ¬ (T (covers (entry m e) p i k q)))

@@ -8,6 +8,7 @@ use lib.Arith.{digits-lt}
 use Rattle.rules.specs.Words.{ownedBy, gap}
 use Rattle.rules.specs.Load.{Map}
 use Rattle.rules.specs.Place.{entry, partsOf, widthOf, heldBy, laneByte, laneBit, fieldByte, ownerOf}
+use Rattle.rules.specs.Layout.{HasBytes}
 use Rattle.rules.proofs.Lanes.{Width, width-pos, full, lane-at-byte, lane-at-bit}
 use Rattle.rules.proofs.Good.{GoodMap, entries-apart}
 use Rattle.rules.proofs.Places.{Field, covers-bit, in-parts, in-entry}
@@ -40,7 +41,7 @@ module _ (w n q : ℕ) (h : Width w) (ln : n < w) (lq : q < 8) where
   lane-to : q < laneBit w (suc ((n * 8 + q) / w)) + w
   lane-to = rw lane-bit-is (lt-div-mul-add (width-pos w h))
 
-module _ (m : Map) (g : GoodMap m) (s k q : ℕ) (hs : s < 3) (hq : q < 8) where
+module _ (m : Map) (g : GoodMap m) (s k q : ℕ) (hs : HasBytes s) (hq : q < 8) where
   -- the byte lies in the entry's parts: the field of its part and of the bit's lane
   pub owner-field :
       {e : ℕ} (h : In m s e k)

@@ -9,6 +9,7 @@ use lib.Dec.{T, ltb, leb, eqb, ltb→lt, leb→le, eqb→eq}
 use Rattle.rules.specs.Words.{Owned, ownedBy, gap, notOwned}
 use Rattle.rules.specs.Load.{Map}
 use Rattle.rules.specs.Place.{entry, partsOf, widthOf, heldBy, fieldByte, fieldBit, covers, orElse, firstOwner, ownerOf}
+use Rattle.rules.specs.Layout.{HasBytes}
 use Rattle.rules.proofs.Tests.{and₃, is-true, from-true}
 use Rattle.rules.proofs.Lanes.{lanes-apart}
 use Rattle.rules.proofs.Good.{GoodMap}
@@ -91,7 +92,7 @@ module _ (m : Map) (g : GoodMap m) where
       let c₂ : Covers m e p i′ k q = rw ep at c₁ in
       (sym ee, sym ep, same-lane f f₂ c c₂)
 
-  module _ (s k q : ℕ) (hs : s < 3) where
+  module _ (s k q : ℕ) (hs : HasBytes s) where
     abbrev found : ℕ → ℕ → ℕ → Owned
     found e p j = cond (covers (entry m e) p (suc j) k q) (ownedBy e p (suc j)) gap
 

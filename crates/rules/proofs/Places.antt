@@ -12,14 +12,16 @@ use borrow.Author.Tests.{eq-eqb}
 use Rattle.rules.specs.Words.{Entry}
 use Rattle.rules.specs.Load.{Map}
 use Rattle.rules.specs.Place.{entry, partsOf, widthOf, isSet, isStaged, isRW, isLane, heldBy, hasField, holds, laneByte, fieldByte, fieldBit, covers}
+use Rattle.rules.specs.Layout.{bankSize, HasBytes, hasBytes, setStart, appSelAt}
 use Rattle.rules.specs.Bank.{fieldAt}
 use Rattle.rules.proofs.Tests.{and₂, and₄, and₅, both-true, from-true, either, not-not, not-and}
 use Rattle.rules.proofs.Lanes.{Width, lane-byte-lt, lane-room}
+use Rattle.rules.proofs.BankLayout.{set-inside, set-apart, app-no-set}
 use Rattle.rules.proofs.Good.{GoodMap, rw-held, entry-good, entry-ends, entries-apart}
 
 -- set s holds the field of entry e, part p and lane i: what the test `holds` says
 pub record Field (m : Map) (s e p i : ℕ) : Type 0 where
-  pub set : s < 3
+  pub set : HasBytes s
   pub ent : e < heldBy m s
   pub part : p < partsOf (entry m e)
   pub low : 1 ≤ i
@@ -27,21 +29,21 @@ pub record Field (m : Map) (s e p i : ℕ) : Type 0 where
 
 pub holds-field : (m : Map) (s e p i : ℕ) → T (holds m s e p i) → Field m s e p i
 holds-field m s e p i h =
-    let (h₀, h₁, h₂, h₃, h₄) = and₅ (isSet s) (ltb e (heldBy m s)) (ltb p (partsOf (entry m e))) (leb 1 i) (leb i 8) h in
+    let (h₀, h₁, h₂, h₃, h₄) = and₅ (hasBytes s) (ltb e (heldBy m s)) (ltb p (partsOf (entry m e))) (leb 1 i) (leb i 8) h in
     record { set = ltb→lt _ _ h₀; ent = ltb→lt _ _ h₁; part = ltb→lt _ _ h₂; low = leb→le _ _ h₃; top = leb→le _ _ h₄ }
 
 pub field-holds : {m : Map} {s e p i : ℕ} → Field m s e p i → T (holds m s e p i)
 field-holds {m} {s} {e} {p} {i} f =
-    both-true (isSet s) _ (lt→ltb _ _ (f .set))
+    both-true (hasBytes s) _ (lt→ltb _ _ (f .set))
     (both-true (ltb e (heldBy m s)) _ (lt→ltb _ _ (f .ent))
     (both-true (ltb p (partsOf (entry m e))) _ (lt→ltb _ _ (f .part)) (both-true (leb 1 i) _ (le→leb _ _ (f .low)) (le→leb _ _ (f .top)))))
 
 -- an entry's field, in a set that holds the entry
 -- a lane counted from 0
-pub lane-field : (m : Map) (s : ℕ) → s < 3 → (e p j : ℕ) → e < heldBy m s → p < partsOf (entry m e) → j < 8 → Field m s e p (suc j)
+pub lane-field : (m : Map) (s : ℕ) → HasBytes s → (e p j : ℕ) → e < heldBy m s → p < partsOf (entry m e) → j < 8 → Field m s e p (suc j)
 lane-field m s hs e p j he hp hj = record { set = hs; ent = he; part = hp; low = omega arith; top = omega arith }
 
-pub field-of : (m : Map) (s e p i : ℕ) → s < 3 → e < heldBy m s → T (hasField m e p i) → Field m s e p i
+pub field-of : (m : Map) (s e p i : ℕ) → HasBytes s → e < heldBy m s → T (hasField m e p i) → Field m s e p i
 field-of m s e p i hs he h =
     let (h₁, h₂, h₃, h₄) = and₄ (ltb e (length (m .entries))) (ltb p (partsOf (entry m e))) (leb 1 i) (leb i 8) h in
     record { set = hs; ent = he; part = ltb→lt _ _ h₂; low = leb→le _ _ h₃; top = leb→le _ _ h₄ }
@@ -68,7 +70,7 @@ read-held m g s e p i hs h n = go (either (isStaged s))
     go (inr a) = let q : s ≡ 2 = omega (arith, ltb→lt s 3 hs, nltb→le s 2 a) in rw q (active-held m e p i h)
 
 -- the same field in another set that holds the entry
-pub field-in-set : {m : Map} {s e p i : ℕ} (s′ : ℕ) → s′ < 3 → e < heldBy m s′ → Field m s e p i → Field m s′ e p i
+pub field-in-set : {m : Map} {s e p i : ℕ} (s′ : ℕ) → HasBytes s′ → e < heldBy m s′ → Field m s e p i → Field m s′ e p i
 field-in-set s′ hs he f = record { set = hs; ent = he; part = f .part; low = f .low; top = f .top }
 
 -- what the test `covers` asks: the bit's byte is the field's, and the bit one of the field's there
@@ -93,6 +95,16 @@ module _ (m : Map) (g : GoodMap m) where
   pub in-set : {s e p i : ℕ} → Field m s e p i → fieldByte (entry m e) p i < 256
   in-set {s} {e} f = omega (arith, in-entry f, entry-ends m g s e (f .ent))
 
+  -- its place in the bank: inside, no AppSel's, and byte k of a set only where both are the field's own
+  pub in-bank : {s e p i : ℕ} → Field m s e p i → fieldAt m s e p i < bankSize
+  in-bank {s} f = set-inside s _ (f .set) (in-set f)
+
+  pub no-app : {s e p i : ℕ} → Field m s e p i → (s′ i′ : ℕ) → s′ < 2 → i′ ≤ 8 → appSelAt s′ i′ ≢ fieldAt m s e p i
+  no-app {s} f s′ i′ hs hi = app-no-set s′ i′ s _ hs hi (f .set) (in-set f)
+
+  pub own-place : {s e p i : ℕ} → Field m s e p i → (s′ k : ℕ) → HasBytes s′ → k < 256 → setStart s′ + k ≡ fieldAt m s e p i → (s′ ≡ s) × (k ≡ fieldByte (entry m e) p i)
+  own-place {s} f s′ k hs hk = set-apart s′ k s _ hs (f .set) hk (in-set f)
+
   pub in-byte : {s e p i : ℕ} → Field m s e p i → fieldBit (entry m e) i + widthOf (entry m e) ≤ 8
   in-byte {s} {e} {p} {i} f = lane-room (widthOf (entry m e)) (field-width f) i (f .low)
 
@@ -107,7 +119,10 @@ module _ (m : Map) (g : GoodMap m) where
         go (no a) (no b) = omega arith
 
     pub same-set : fieldAt m s e p i ≡ fieldAt m s′ e′ p′ i′ → s ≡ s′
-    same-set q = omega (arith, in-set f, in-set f′)
+    same-set q = set-apart s _ s′ _ (f .set) (f′ .set) (in-set f) (in-set f′) q .0
+
+    pub same-byte : fieldAt m s e p i ≡ fieldAt m s′ e′ p′ i′ → fieldByte (entry m e) p i ≡ fieldByte (entry m e′) p′ i′
+    same-byte q = set-apart s _ s′ _ (f .set) (f′ .set) (in-set f) (in-set f′) q .1
 
   pub same-part : {s e p i s′ p′ i′ : ℕ} → Field m s e p i → Field m s′ e p′ i′ → fieldByte (entry m e) p i ≡ fieldByte (entry m e) p′ i′ → p ≡ p′
   same-part {s} {e} {p} {i} {s′} {p′} {i′} f f′ q =

@@ -10,7 +10,7 @@ use lib.Seq.{getD-set-same, getD-set-other, drop-set-lt}
 use lib.Dec.{T, eqb, eqb→eq}
 use borrow.Author.Tests.{eq-eqb}
 use Rattle.rules.specs.Words.{Entry}
-use Rattle.rules.specs.Layout.{bankSize, setStart}
+use Rattle.rules.specs.Layout.{bankSize, HasBytes, setStart}
 use Rattle.rules.specs.Load.{Map}
 use Rattle.rules.specs.Place.{entry, widthOf, fieldByte, fieldBit, covers}
 use Rattle.rules.specs.Bank.{Bank, fieldAt, merge, getField, putField}
@@ -19,7 +19,7 @@ use Rattle.rules.proofs.Tests.{and₄, by-test, either}
 use Rattle.rules.proofs.Lanes.{lanes-apart}
 use Rattle.rules.proofs.Digits.{cut-merge, cut-merge-other, merge-lt}
 use Rattle.rules.proofs.Good.{GoodMap}
-use Rattle.rules.proofs.Places.{Field, covers-bit, field-width, in-set, in-byte, same-entry, same-part, same-set}
+use Rattle.rules.proofs.Places.{Field, covers-bit, field-width, in-bank, own-place, in-byte, same-entry, same-part, same-set, same-byte}
 
 -- all four numbers are equal
 abbrev pub eqb₄ : (s e p i s′ e′ p′ i′ : ℕ) → Bool
@@ -39,7 +39,7 @@ other₄ s e p i s′ e′ p′ i′ h = go (either (eqb₄ s e p i s′ e′ p�
         let (a₁, a₂, a₃, a₄) = and₄ (eqb s′ s) (eqb e′ e) (eqb p′ p) (eqb i′ i) y in
         absurd (h (eqb→eq s′ s a₁) (eqb→eq e′ e a₂) (eqb→eq p′ p a₃) (eqb→eq i′ i a₄))
 
--- a byte of the bank set to a byte: the bytes below 784 stay bytes
+-- a byte of the bank set to a byte: the bytes inside its size stay bytes
 pub set-bytes :
     (b : Bank) (at v : ℕ) → at < length b → v < 256 → ((k : ℕ) → k < bankSize → getD b k 0 < 256) → (k : ℕ) → k < bankSize → getD (set b at v) k 0 < 256
 set-bytes b at v hat hv small k l = go (ℕ-discrete k at)
@@ -59,11 +59,8 @@ beside e p i k q here out = go (decLt q (fieldBit e i)) (decLt q (fieldBit e i +
     go (no l) (yes u) = absurd (out (covers-bit e p i k q here (omega arith) u))
 
 module _ (m : Map) (g : GoodMap m) (b : Bank) (size : bankSize ≤ length b) (s e p i v : ℕ) (f : Field m s e p i) (hv : v < 2 ^ widthOf (entry m e)) where
-  pub at-lt : fieldAt m s e p i < 768
-  at-lt = omega (arith, in-set m g f, f .set)
-
   at-in : fieldAt m s e p i < length b
-  at-in = omega (arith, at-lt)
+  at-in = omega (arith, in-bank m g f)
 
   pub get-put : getField m (putField m b s e p i v) s e p i ≡ v
   unfolding getField putField
@@ -100,7 +97,7 @@ module _ (m : Map) (g : GoodMap m) (b : Bank) (size : bankSize ≤ length b) (s 
       go (no d) = get-put-apart s′ e′ p′ i′ d
       go (yes q) =
           let es : s′ ≡ s = same-set m g f′ f q in
-          let qb : fieldByte (entry m e′) p′ i′ ≡ fieldByte (entry m e) p i = omega arith in
+          let qb : fieldByte (entry m e′) p′ i′ ≡ fieldByte (entry m e) p i = same-byte m g f′ f q in
           let ee : e′ ≡ e = same-entry m g f′ f qb in
           let f₁ : Field m s e p′ i′ = rw (es, ee) at f′ in
           let q₁ : fieldByte (entry m e) p′ i′ ≡ fieldByte (entry m e) p i = rw ee at qb in
@@ -126,18 +123,17 @@ module _ (m : Map) (g : GoodMap m) (b : Bank) (size : bankSize ≤ length b) (s 
 
   -- a bit that the field doesn't cover
   pub put-bit :
-      (s′ k q : ℕ) → k < 256 → (s′ ≡ s → ¬ (T (covers (entry m e) p i k q))) → bitIn (putField m b s e p i v) s′ k q ≡ bitIn b s′ k q
+      (s′ k q : ℕ) → HasBytes s′ → k < 256 → (s′ ≡ s → ¬ (T (covers (entry m e) p i k q))) → bitIn (putField m b s e p i v) s′ k q ≡ bitIn b s′ k q
   unfolding putField
-  put-bit s′ k q hk out = go (ℕ-discrete (setStart s′ + k) (fieldAt m s e p i))
+  put-bit s′ k q hs hk out = go (ℕ-discrete (setStart s′ + k) (fieldAt m s e p i))
     where
       go : Dec (setStart s′ + k ≡ fieldAt m s e p i) → bitIn (putField m b s e p i v) s′ k q ≡ bitIn b s′ k q
       go (no ne) = rw (getD-set-other b (fieldAt m s e p i) (setStart s′ + k) _ 0 ne)
       go (yes at) =
-          let es : s′ ≡ s = omega (arith, in-set m g f) in
-          let here : fieldByte (entry m e) p i ≡ k = omega (arith, in-set m g f) in
+          let (es, here) = own-place m g f s′ k hs hk at in
           rw
           (at, getD-set-same b (fieldAt m s e p i) _ 0 at-in)
-          (cut-merge-other _ _ _ v hv q 1 (beside (entry m e) p i k q here (out es)))
+          (cut-merge-other _ _ _ v hv q 1 (beside (entry m e) p i k q (sym here) (out es)))
 
   pub put-bytes : ((k : ℕ) → k < bankSize → getD b k 0 < 256) → (k : ℕ) → k < bankSize → getD (putField m b s e p i v) k 0 < 256
   unfolding putField
@@ -150,7 +146,7 @@ module _ (m : Map) (g : GoodMap m) (b : Bank) (size : bankSize ≤ length b) (s 
       eight = omega (arith, in-byte m g f)
 
       new : merge (getD b (fieldAt m s e p i) 0) t (widthOf (entry m e)) v < 2 ^ ((8 - (widthOf (entry m e) + t)) + (widthOf (entry m e) + t))
-      new = merge-lt _ t (widthOf (entry m e)) v hv (8 - (widthOf (entry m e) + t)) (rw eight (small (fieldAt m s e p i) (omega (arith, at-lt))))
+      new = merge-lt _ t (widthOf (entry m e)) v hv (8 - (widthOf (entry m e) + t)) (rw eight (small (fieldAt m s e p i) (in-bank m g f)))
 
   pub put-elsewhere : (k : ℕ) → k ≢ fieldAt m s e p i → getD (putField m b s e p i v) k 0 ≡ getD b k 0
   unfolding putField
@@ -162,4 +158,4 @@ module _ (m : Map) (g : GoodMap m) (b : Bank) (size : bankSize ≤ length b) (s 
 
   pub put-beyond : drop bankSize (putField m b s e p i v) ≡ drop bankSize b
   unfolding putField
-  put-beyond = drop-set-lt bankSize b (fieldAt m s e p i) _ (omega (arith, at-lt))
+  put-beyond = drop-set-lt bankSize b (fieldAt m s e p i) _ (in-bank m g f)

@@ -20,18 +20,19 @@ use Rattle.rules.proofs.Tests.{and₃, by-test₂, either, is-false}
 use Rattle.rules.proofs.Any.{any-ext}
 use Rattle.rules.proofs.Good.{GoodMap, rw-held}
 use Rattle.rules.proofs.Walks.{map-good}
-use Rattle.rules.proofs.Places.{Field, field-in-set, in-set}
+use Rattle.rules.proofs.BankLayout.{app-inside}
+use Rattle.rules.proofs.Places.{Field, field-in-set, no-app}
 use Rattle.rules.proofs.Put.{eqb₄, get-put-any, put-elsewhere}
 use Rattle.rules.proofs.Allowed.{select-allowed, write-field, write-fits, read-field, publish-field, publish-fits, apply-staged, bits-lt}
 use Rattle.rules.proofs.Plans.{lowest-same}
-use Rattle.rules.proofs.Applied.{apply-field, apply-past-sets}
+use Rattle.rules.proofs.Applied.{apply-field, apply-apps}
 use Rattle.rules.proofs.Verdicts.{Judged, first-append, first-same, judge-passes, decide-both}
 use Rattle.rules.proofs.Orders.{bank-order-passes, bank-order-same}
 use Rattle.rules.proofs.Footprint.{onLane, laned, SameLane, SameOn, Alike, ReadsOnly}
 
 module _ (m : Map) (g : GoodMap m) (b b′ : Bank) (size : bankSize ≤ length b) (size′ : bankSize ≤ length b′) where
   -- a lane that is the same stays so, whatever call does the same to both banks
-  module _ (j : ℕ) (r : SameLane m j b b′) where
+  module _ (j : ℕ) (l : 1 ≤ j) (u : j ≤ 8) (r : SameLane m j b b′) where
     same-put : (s e p i v : ℕ) → Field m s e p i → v < 2 ^ widthOf (entry m e) → SameLane m j (putField m b s e p i v) (putField m b′ s e p i v)
     same-put s e p i v f hv =
         record {
@@ -40,9 +41,9 @@ module _ (m : Map) (g : GoodMap m) (b b′ : Bank) (size : bankSize ≤ length b
               ∙ ap (cond (eqb₄ s e p i s′ e′ p′ j) v) (r .fields s′ e′ p′ f′)
               ∙ sym (get-put-any m g b′ size′ s e p i v f hv s′ e′ p′ j f′);
           apps = λ s′ hs.
-              put-elsewhere m g b size s e p i v f hv (appSelAt s′ j) (omega (arith, in-set m g f, f .set))
+              put-elsewhere m g b size s e p i v f hv (appSelAt s′ j) (no-app m g f s′ j hs u)
               ∙ r .apps s′ hs
-              ∙ sym (put-elsewhere m g b′ size′ s e p i v f hv (appSelAt s′ j) (omega (arith, in-set m g f, f .set)));
+              ∙ sym (put-elsewhere m g b′ size′ s e p i v f hv (appSelAt s′ j) (no-app m g f s′ j hs u));
         }
 
     same-select : (s i a : ℕ) → s < 2 → i ≤ 8 → SameLane m j (set b (appSelAt s i) a) (set b′ (appSelAt s i) a)
@@ -51,8 +52,8 @@ module _ (m : Map) (g : GoodMap m) (b b′ : Bank) (size : bankSize ≤ length b
         record {
           fields = λ s′ e p f.
               rw (
-                getD-set-other b (appSelAt s i) (fieldAt m s′ e p j) a 0 (omega (arith, in-set m g f, f .set)),
-                getD-set-other b′ (appSelAt s i) (fieldAt m s′ e p j) a 0 (omega (arith, in-set m g f, f .set)),
+                getD-set-other b (appSelAt s i) (fieldAt m s′ e p j) a 0 (λ x. no-app m g f s i hs hi (sym x)),
+                getD-set-other b′ (appSelAt s i) (fieldAt m s′ e p j) a 0 (λ x. no-app m g f s i hs hi (sym x)),
               )
               (r .fields s′ e p f);
           apps = λ s′ hs′. go s′ hs′ (ℕ-discrete (appSelAt s′ j) (appSelAt s i));
@@ -60,7 +61,7 @@ module _ (m : Map) (g : GoodMap m) (b b′ : Bank) (size : bankSize ≤ length b
       where
         go : (s′ : ℕ) → s′ < 2 → Dec (appSelAt s′ j ≡ appSelAt s i)
             → getD (set b (appSelAt s i) a) (appSelAt s′ j) 0 ≡ getD (set b′ (appSelAt s i) a) (appSelAt s′ j) 0
-        go s′ hs′ (yes q) = rw (q, getD-set-same b (appSelAt s i) a 0 (omega arith), getD-set-same b′ (appSelAt s i) a 0 (omega arith))
+        go s′ hs′ (yes q) = let inside = app-inside s i hs hi in rw (q, getD-set-same b (appSelAt s i) a 0 (omega arith), getD-set-same b′ (appSelAt s i) a 0 (omega arith))
         go s′ hs′ (no ne) =
             getD-set-other b (appSelAt s i) (appSelAt s′ j) a 0 ne ∙ r .apps s′ hs′ ∙ sym (getD-set-other b′ (appSelAt s i) (appSelAt s′ j) a 0 ne)
 
@@ -80,9 +81,9 @@ module _ (m : Map) (g : GoodMap m) (b b′ : Bank) (size : bankSize ≤ length b
               (λ _. r .fields s′ e p f))
               ∙ sym (apply-field m g s lanes b′ size′ s′ e p j f);
           apps = λ s′ hs′.
-              apply-past-sets m g s lanes b size (appSelAt s′ j) (omega arith)
+              apply-apps m g s lanes b size s′ j hs′ u
               ∙ r .apps s′ hs′
-              ∙ sym (apply-past-sets m g s lanes b′ size′ (appSelAt s′ j) (omega arith));
+              ∙ sym (apply-apps m g s lanes b′ size′ s′ j hs′ u);
         }
 
     same-number : (s e p : ℕ) → Field m s e p j → numberIn m b s e p j ≡ numberIn m b′ s e p j
@@ -107,8 +108,8 @@ module _ (m : Map) (g : GoodMap m) (b b′ : Bank) (size : bankSize ≤ length b
             → (bankCopies m b s lanes e i && not (accepts (entry m e) (numberIn m b s e p i)))
             ≡ (bankCopies m b′ s lanes e i && not (accepts (entry m e) (numberIn m b′ s e p i)))
         go e p he hp (inl y) =
-            ap₂ (λ c v. c && not (accepts (entry m e) v)) (same-copies i (same i l u y) s lanes e hs)
-            (same-number i (same i l u y) s e p (record { set = omega arith; ent = rw-held m g s e he; part = hp; low = l; top = u }))
+            ap₂ (λ c v. c && not (accepts (entry m e) v)) (same-copies i l u (same i l u y) s lanes e hs)
+            (same-number i l u (same i l u y) s e p (record { set = omega arith; ent = rw-held m g s e he; part = hp; low = l; top = u }))
         go e p he hp (inr n) = rw (is-false (chooses lanes i) n)
 
     plan-alike : firstOf (bankPlan m (apply s lanes) b) ≡ firstOf (bankPlan m (apply s lanes) b′)
@@ -135,26 +136,26 @@ module _ (m : Map) (g : GoodMap m) (b b′ : Bank) (size : bankSize ≤ length b
   unfolding bankDoes withNumber
   does-alike (select s i a) h j same =
       let (hs, hi, hj, ha) = select-allowed m j in
-      record { answer = refl; lanes = λ n r. same-select n r s i a hs hj }
+      record { answer = refl; lanes = λ n l u r. same-select n l u r s i a hs hj }
   does-alike (write s e p i v) h j same =
       let f : Field m s e p i = write-field m g j in
-      record { answer = refl; lanes = λ n r. same-put n r s e p i _ f (bits-lt m g v f (write-fits m j)) }
+      record { answer = refl; lanes = λ n l u r. same-put n l u r s e p i _ f (bits-lt m g v f (write-fits m j)) }
   does-alike (read s e p i) h j same =
       let f : Field m s e p i = read-field m g j in
-      record { answer = ap number (same-number i (same i (f .low) (f .top) (eqb-refl i)) s e p f); lanes = λ n r. r }
+      record { answer = ap number (same-number i (f .low) (f .top) (same i (f .low) (f .top) (eqb-refl i)) s e p f); lanes = λ n l u r. r }
   does-alike (byteWrite s k v) h j same = absurd h
   does-alike (byteRead s k) h j same = absurd h
   does-alike (publish e p i v) h j same =
       let f : Field m 2 e p i = publish-field m j in
-      record { answer = refl; lanes = λ n r. same-put n r 2 e p i _ f (bits-lt m g v f (publish-fits m j)) }
-  does-alike (apply s lanes) h j same = record { answer = refl; lanes = λ n r. same-apply n r s lanes (apply-staged m j) }
+      record { answer = refl; lanes = λ n l u r. same-put n l u r 2 e p i _ f (bits-lt m g v f (publish-fits m j)) }
+  does-alike (apply s lanes) h j same = record { answer = refl; lanes = λ n l u r. same-apply n l u r s lanes (apply-staged m j) }
 
 pub call-reads : ReadsOnly
 unfolding bankStep
 call-reads count first last c b b′ h q same =
     rw (← q, order-alike)
     (decide-both (Alike m b b′) (order b′) b b′ (bankDoes m c b) (bankDoes m c b′)
-    (λ _. record { answer = refl; lanes = λ i r. r })
+    (λ _. record { answer = refl; lanes = λ i l u r. r })
     (λ v. let (a, z, r) = bank-order-passes count first last (length b) (judge m c ++ bankPlan m c b′) v in
     does-alike m (map-good count first last a) b b′ z (omega arith) c h (judge-passes m c (first-append (judge m c) (bankPlan m c b′) r .0)) same))
   where

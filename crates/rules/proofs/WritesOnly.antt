@@ -1,5 +1,5 @@
 -- A call on lanes writes only bits of their fields and their AppSels.
-use mathlib.Core.Path.{_≡_, refl, _∙_}
+use mathlib.Core.Path.{_≡_, refl, sym, _∙_}
 use mathlib.Core.Logic.{_≢_}
 use mathlib.Core.Bool.{Bool, not}
 use mathlib.Core.List.{_++_}
@@ -15,9 +15,10 @@ use Rattle.rules.specs.Layout.{bankSize, setStart, appSelAt}
 use Rattle.rules.specs.Refuse.{Verdict, passes, refuses, decide, judge, bankOrder, chooses}
 use Rattle.rules.specs.Bank.{Bank, fieldAt, getField, putField, withNumber, bankCopies, bankPlan, applyBank, bankDoes, bankStep}
 use Rattle.rules.proofs.Tests.{and₂}
+use Rattle.rules.proofs.BankLayout.{app-apart, app-no-set}
 use Rattle.rules.proofs.Good.{GoodMap}
 use Rattle.rules.proofs.Walks.{map-good}
-use Rattle.rules.proofs.Places.{Field, in-set}
+use Rattle.rules.proofs.Places.{Field, no-app}
 use Rattle.rules.proofs.Put.{other₄, get-put-other, put-bit, put-elsewhere, put-size}
 use Rattle.rules.proofs.Holds.{field-lt}
 use Rattle.rules.proofs.Allowed.{select-allowed, write-field, write-fits, publish-field, publish-fits, bits-lt}
@@ -51,11 +52,11 @@ module _ (m : Map) (g : GoodMap m) (on : ℕ → Bool) (b : Bank) (size : bankSi
   only-put s e p i v f hv y =
       record {
         size = put-size m g b size s e p i v f hv;
-        bits = λ s′ k q hs hk out. put-bit m g b size s e p i v f hv s′ k q hk (λ es c. T-not (on i) (out e p i (rw es f) c) y);
+        bits = λ s′ k q hs hk out. put-bit m g b size s e p i v f hv s′ k q hs hk (λ es c. T-not (on i) (out e p i (rw es f) c) y);
         lanes = λ j l u n.
             record {
               fields = λ s′ e′ p′ f′. get-put-other m g b size s e p i v f hv s′ e′ p′ j f′ (other₄ s e p i s′ e′ p′ j (λ _ _ _. lanes-differ on i j y n));
-              apps = λ s′ hs. put-elsewhere m g b size s e p i v f hv (appSelAt s′ j) (omega (arith, in-set m g f, f .set));
+              apps = λ s′ hs. put-elsewhere m g b size s e p i v f hv (appSelAt s′ j) (no-app m g f s′ j hs u);
             };
       }
 
@@ -65,12 +66,12 @@ module _ (m : Map) (g : GoodMap m) (on : ℕ → Bool) (b : Bank) (size : bankSi
   only-select s i a hs hi hj y =
       record {
         size = length-set b (appSelAt s i) a;
-        bits = λ s′ k q hs′ hk out. rw (getD-set-other b (appSelAt s i) (setStart s′ + k) a 0 (omega arith));
+        bits = λ s′ k q hs′ hk out. rw (getD-set-other b (appSelAt s i) (setStart s′ + k) a 0 (λ x. app-no-set s i s′ k hs hj hs′ hk (sym x)));
         lanes = λ j l u n.
             let ne : j ≢ i = lanes-differ on i j y n in
             record {
-              fields = λ s′ e p f. rw (getD-set-other b (appSelAt s i) (fieldAt m s′ e p j) a 0 (omega (arith, in-set m g f, f .set)));
-              apps = λ s′ hs′. getD-set-other b (appSelAt s i) (appSelAt s′ j) a 0 (omega arith);
+              fields = λ s′ e p f. rw (getD-set-other b (appSelAt s i) (fieldAt m s′ e p j) a 0 (λ x. no-app m g f s i hs hj (sym x)));
+              apps = λ s′ hs′. getD-set-other b (appSelAt s i) (appSelAt s′ j) a 0 (λ x. ne (app-apart s′ j s i hs′ hs l u hi hj x .1));
             };
       }
 

@@ -13,7 +13,7 @@ use Rattle.rules.specs.Descriptor.{maskBytes, hasApp, byteAt, entryAt, d
 use Rattle.rules.specs.Load.{start, Map, loadOf, rwEntries, roEntries, total, mapOf}
 use Rattle.rules.specs.Place.{nothing, entry, widthOf, isRW, lengthOf, holds, fieldByte, fieldBit, covers}
 use Rattle.rules.specs.Accept.{accepts, toBits, fromBits, weightOf}
-use Rattle.rules.specs.Layout.{bankSize, setStart}
+use Rattle.rules.specs.Layout.{bankSize, HasBytes, setStart}
 use Rattle.rules.specs.Bank.{Bank, numberIn, appSelIn, bankStep, freshStep, runBank}
 use Rattle.rules.specs.Table.{Table, freshTable, runTable}
 use Rattle.rules.specs.Beside.{placeOf, ownerCall, entryAnswer, entryBytes, weightCall}
@@ -155,7 +155,7 @@ pub record Shows (m : Map) (b : Bank) (t : Table) : Type 0 where
   pub fields : (s e p i : ℕ) → T (holds m s e p i) → numberIn m b s e p i ≡ t .numbers s e p i
   pub apps : (s i : ℕ) → s < 2 → 1 ≤ i → i ≤ 8 → appSelIn b s i ≡ t .apps s i
   pub others : (s k q : ℕ)
-      → s < 3
+      → HasBytes s
       → k < 256
       → q < 8
       → ((e p i : ℕ) → T (holds m s e p i) → ¬ (T (covers (entry m e) p i k q)))
@@ -175,7 +175,7 @@ pub record ListAgrees (count : ℕ) (rw ro : List ℕ) (bank : Bank) (calls : Li
   pub size : length (bankRun count rw ro bank calls .1) ≡ length bank
   pub beyond : drop bankSize (bankRun count rw ro bank calls .1) ≡ drop bankSize bank
 
--- descriptors and count that the load accepts, a bank of at least 784 bytes of any content, every list of the seven calls
+-- descriptors and count that the load accepts, a bank of at least its size and of any content, every list of the seven calls
 abbrev pub Demand3 : Type 0
 Demand3 =
     (count : ℕ) (rw ro bank : List ℕ)

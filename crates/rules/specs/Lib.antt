@@ -4,9 +4,9 @@ pub mod Numbers
 pub mod Parameter
 pub mod Descriptor
 pub mod Load
+pub mod Layout
 pub mod Place
 pub mod Accept
-pub mod Layout
 pub mod Refuse
 pub mod Bank
 pub mod Table

@@ -6,6 +6,7 @@ use lib.Dec.{ltb, leb, eqb}
 use Rattle.rules.specs.Words.{Entry, Owned, ownedBy, gap, notOwned}
 use Rattle.rules.specs.Parameter.{rowOf}
 use Rattle.rules.specs.Load.{Map}
+use Rattle.rules.specs.Layout.{hasBytes}
 
 -- what stands past the last entry: an entry without fields
 abbrev pub nothing : Entry
@@ -26,7 +27,7 @@ widthOf e = rowOf (e .id) .width
 unfoldable pub signedOf : Entry → Bool
 signedOf e = rowOf (e .id) .signed
 
--- sets 0 and 1 are staged, set 2 is active
+-- the sets that a call may name: 0 and 1 are staged, 2 is active
 abbrev pub isSet : ℕ → Bool
 isSet s = ltb s 3
 
@@ -53,7 +54,7 @@ hasField m e p i = ltb e (length (m .entries)) && (ltb p (partsOf (entry m e)) &
 
 -- "each set, entry, part and lane that the set holds"
 abbrev pub holds : Map → ℕ → ℕ → ℕ → ℕ → Bool
-holds m s e p i = isSet s && (ltb e (heldBy m s) && (ltb p (partsOf (entry m e)) && isLane i))
+holds m s e p i = hasBytes s && (ltb e (heldBy m s) && (ltb p (partsOf (entry m e)) && isLane i))
 
 -- "For lane i, 1 to 8, let b = (i − 1) × W": the lane's first bit in its part, in byte b div 8, at bit b mod 8 there
 abbrev pub laneStart : ℕ → ℕ → ℕ

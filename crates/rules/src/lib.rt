@@ -1,4 +1,36 @@
-// The types that every call speaks in. The rules are the definitions of specs/, the theorems about them are in proofs/.
+// The types that every call speaks in, and the layout of a bank. The rules are the definitions of specs/, the theorems about them
+// are in proofs/.
+ghost use mathlib.Core.Path.{_≡_};
+ghost use Rattle.rules.specs.Layout.{setStart, appSelStart};
+
+// A bank's size in bytes.
+pub const BANK_SIZE: usize = 784;
+
+// The active set's part of a bank.
+pub const ACTIVE_START: usize = 512;
+
+pub const ACTIVE_END: usize = 768;
+
+// Where a set begins in a bank: the staged sets 0 and 1, and the active set.
+pub fn set_start(set: usize) -> usize
+    ensures { λ r. ⌜ r ≡ setStart set ⌝ }
+{
+    match set {
+        0 => 0,
+        1 => 256,
+        _ => ACTIVE_START,
+    }
+}
+
+// Where the AppSels of a staged set begin, those of lanes 1 to 8 in a row.
+pub fn app_sel_start(set: usize) -> usize
+    ensures { λ r. ⌜ r ≡ appSelStart set ⌝ }
+{
+    if set == 0 {
+        return 768;
+    }
+    776
+}
 
 // A refusal: document 01's number alone (8 to 12, and all of the reader's), with the entry that it names (1 to 7), or with the
 // lane (13, 14).

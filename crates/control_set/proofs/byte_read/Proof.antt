@@ -1,7 +1,7 @@
 -- `byte_read` meets its contract: refused by the gate, or the byte where it has fields and 0 where it has none.
 use borrow.Author.Needs.{needs}
 use mathlib.Core.Path.{refl, ap, _∙_}
-use Prim.Native.Nat.{_+_, _*_}
+use Prim.Native.Nat.{_+_}
 use native.Mathlib.Omega.{arith}
 use lib.IntN.{pos}
 use lib.ListN.{length, set}
@@ -9,6 +9,7 @@ use mir.Facts.{toZ-ofZ}
 use denote.Ref.{now}
 use Rattle.rules.specs.declared.Call.{Call}
 use Rattle.rules.specs.declared.Answer.{Answer}
+use Rattle.rules.specs.Layout.{setStart}
 use Rattle.rules.proofs.Steps.{meets}
 use Rattle.control_set.specs.Gate.{Reached}
 use Rattle.control_set.proofs.ByteWays.{byte-unreached, byte-read-away, byte-read-done}
@@ -39,14 +40,11 @@ returns c =
     let g = k .before .before .before .before .args in
     meets (byte-unreached (g .count) (now (g .rw)) (now (g .ro)) (now (g .bank)) (g .set) (g .offset) (Call.ByteRead (g .set) (g .offset)) (byte-read-away (g .count) (now (g .rw)) (now (g .ro)) (now (g .bank)) (g .set) (g .offset)) (c .before .enum-told .given .1) (k .admit-byte .ensures)) (c .byte-refused .ensures) refl .0
 
-mul-wide : tie.Need-mul-wide
-mul-wide c = let t = reached (c .before) in omega (arith, t .isSet)
-
-add-wide : tie.Need-add-wide
-add-wide c = let t = reached (c .before) in omega (arith, t .isSet, t .top)
+byte-of-requires : tie.Need-byte-of-requires
+byte-of-requires c κs = let t = reached (c .before) in (t .isSet, t .top)
 
 shared-slice-read-wide : tie.Need-shared-slice-read-wide
-shared-slice-read-wide c = let t = reached (c .before .before) in omega (arith, t .isSet, t .top, t .size-is)
+shared-slice-read-wide c = let b = c .before in omega (arith, b .byte-of .ensures .1, reached (b .before .before) .size-is)
 
 wide-requires : tie.Need-wide-requires
 wide-requires c κs = search needs
@@ -54,11 +52,12 @@ wide-requires c κs = search needs
 returns-2 : tie.Need-returns-2
 returns-2 c =
     let u = c .before in
-    let k = u .before .before in
+    let b = u .before in
+    let k = b .before .before in
     let g = k .before .before .before .before .before .before .before .args in
     meets
-    (byte-read-done (g .count) (now (g .rw)) (now (g .ro)) (now (g .bank)) (g .set) (g .offset) (reached k) (u .shared-slice-known4 .given (256 * g .set + g .offset) .fits))
-    (ap Answer.Number (toZ-ofZ (record { sfits = c .wide .ok }) ∙ c .wide .ensures) ∙ rw (u .before .if1 .taken) refl)
+    (byte-read-done (g .count) (now (g .rw)) (now (g .ro)) (now (g .bank)) (g .set) (g .offset) (reached k) (u .shared-slice-known4 .given (setStart (g .set) + g .offset) .fits))
+    (ap Answer.Number (toZ-ofZ (record { sfits = c .wide .ok }) ∙ c .wide .ensures) ∙ rw (b .before .if1 .taken, b .byte-of .ensures .0) refl)
     refl
     .0
 
@@ -67,7 +66,7 @@ returns-3 c =
     let k = c .before in
     let n = k .before .before .before .before in
     let g = k .before .before .before .before .before .before .before .args in
-    meets {r = Answer.Number (pos 0)} (byte-read-done (g .count) (now (g .rw)) (now (g .ro)) (now (g .bank)) (g .set) (g .offset) (reached k) (n .shared-slice-known3 .given (256 * g .set + g .offset) .fits)) (rw (c .if1 .left) refl) refl .0
+    meets {r = Answer.Number (pos 0)} (byte-read-done (g .count) (now (g .rw)) (now (g .ro)) (now (g .bank)) (g .set) (g .offset) (reached k) (n .shared-slice-known3 .given (setStart (g .set) + g .offset) .fits)) (rw (c .if1 .left) refl) refl .0
 
 pub byte-read-spec : {M : Type 1} → statement M
 byte-read-spec =
@@ -78,8 +77,7 @@ byte-read-spec =
     enum-told
     byte-refused-requires
     returns
-    mul-wide
-    add-wide
+    byte-of-requires
     shared-slice-read-wide
     wide-requires
     returns-2

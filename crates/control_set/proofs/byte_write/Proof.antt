@@ -40,41 +40,35 @@ returns-2 c =
     let g = c .before .before .before .before .before .before .before .before .args in
     meets (byte-write-11 (g .count) (now (g .rw)) (now (g .ro)) (now (g .bank)) (g .set) (g .offset) (reached (c .before)) (g .value) (c .if1 .taken)) refl refl
 
-mul-bank : tie.Need-mul-bank
-mul-bank c = let t = reached (c .before .before) in omega (arith, t .isSet)
-
-add-bank : tie.Need-add-bank
-add-bank c = let t = reached (c .before .before) in omega (arith, t .isSet, t .top)
+byte-of-requires : tie.Need-byte-of-requires
+byte-of-requires c κs = let t = reached (c .before .before) in (t .isSet, t .top)
 
 slice-write-bank : tie.Need-slice-write-bank
-slice-write-bank c = let t = reached (c .before .before) in omega (arith, t .isSet, t .top, t .size-is)
+slice-write-bank c = omega (arith, c .byte-of .ensures .1, reached (c .before .before .before) .size-is)
 
 same-length : tie.Need-same-length
 same-length c = search needs
 
 returns-3 : tie.Need-returns-3
 returns-3 c =
-    let k = c .before .before in
+    let k = c .before .before .before in
     let g = k .before .before .before .before .before .before .before .args in
-    meets (byte-write-done (g .count) (now (g .rw)) (now (g .ro)) (now (g .bank)) (g .set) (g .offset) (reached k) (g .value) (c .before .if1 .left) (omega (arith, k .before .before .before .before .before .before .before .fits .value))) refl (rw (c .if2 .taken) refl)
+    meets (byte-write-done (g .count) (now (g .rw)) (now (g .ro)) (now (g .bank)) (g .set) (g .offset) (reached k) (g .value) (c .before .before .if1 .left) (omega (arith, k .before .before .before .before .before .before .before .fits .value))) refl (rw (c .before .if2 .taken, c .byte-of .ensures .0) refl)
 
-mul-bank-2 : tie.Need-mul-bank-2
-mul-bank-2 c = let t = reached (c .before .before) in omega (arith, t .isSet)
-
-add-bank-2 : tie.Need-add-bank-2
-add-bank-2 c = let t = reached (c .before .before) in omega (arith, t .isSet, t .top)
+byte-of-requires-2 : tie.Need-byte-of-requires-2
+byte-of-requires-2 c κs = let t = reached (c .before .before) in (t .isSet, t .top)
 
 slice-write-bank-2 : tie.Need-slice-write-bank-2
-slice-write-bank-2 c = let t = reached (c .before .before) in omega (arith, t .isSet, t .top, t .size-is)
+slice-write-bank-2 c = omega (arith, c .byte-of2 .ensures .1, reached (c .before .before .before) .size-is)
 
 same-length-2 : tie.Need-same-length-2
 same-length-2 c = search needs
 
 returns-4 : tie.Need-returns-4
 returns-4 c =
-    let k = c .before .before in
+    let k = c .before .before .before in
     let g = k .before .before .before .before .before .before .before .args in
-    meets (byte-write-done (g .count) (now (g .rw)) (now (g .ro)) (now (g .bank)) (g .set) (g .offset) (reached k) (g .value) (c .before .if1 .left) (omega (arith, k .before .before .before .before .before .before .before .fits .value))) refl (rw (c .if2 .left) refl)
+    meets (byte-write-done (g .count) (now (g .rw)) (now (g .ro)) (now (g .bank)) (g .set) (g .offset) (reached k) (g .value) (c .before .before .if1 .left) (omega (arith, k .before .before .before .before .before .before .before .fits .value))) refl (rw (c .before .if2 .left, c .byte-of2 .ensures .0) refl)
 
 pub byte-write-spec : {M : Type 1} → statement M
 byte-write-spec =
@@ -86,13 +80,11 @@ byte-write-spec =
     byte-refused-requires
     returns
     returns-2
-    mul-bank
-    add-bank
+    byte-of-requires
     slice-write-bank
     same-length
     returns-3
-    mul-bank-2
-    add-bank-2
+    byte-of-requires-2
     slice-write-bank-2
     same-length-2
     returns-4)

@@ -19,13 +19,14 @@ use Rattle.rules.proofs.Places.{Field}
 use Rattle.descriptor.specs.Find.{acceptedBy}
 use Rattle.control_set.specs.Field.{InBits}
 use Rattle.control_set.proofs.Ways.{call-10, call-11, call-12, call-done}
-use Rattle.control_set.proofs.Enters.{Entered, EntryGated, found-gated, ranged, entered-opened, call-unfound, no-publish, publish-tested, publish-directed, publish-there, spot-there, stored-there, value-tested, value-bits}
+use Rattle.control_set.specs.Gate.{Entered, EntryGated}
+use Rattle.control_set.proofs.Enters.{ranged, entered-opened, call-unfound, no-publish, publish-tested, publish-directed, publish-there, spot-there, stored-there, value-tested, value-bits}
 use Rattle.control_set.proofs.publish.Statement.{statement}
 use Rattle.control_set.proofs.publish.Tie as tie
 
 -- what the search gives, and the entry that is found, in what the pattern binds
-gated : (c : tie.After-find) → let g = c .before .before .before .before .args in EntryGated (g .count) (now (g .rw)) (now (g .ro)) (length (now (g .bank))) (g .entry) (c .find .result)
-gated c = let g = c .before .before .before .before .args in found-gated (g .count) (now (g .rw)) (now (g .ro)) (length (now (g .bank))) (g .entry) (c .find .result) (c .find .ensures)
+gated : (c : tie.After-admit-entry) → let g = c .before .before .before .before .args in EntryGated (g .count) (now (g .rw)) (now (g .ro)) (length (now (g .bank))) (g .entry) (c .admit-entry .result)
+gated c = c .admit-entry .ensures
 
 entered : (c : tie.After-known-told) →
     let g = c .before .before .before .before .before .before .before .args in
@@ -68,8 +69,8 @@ field c =
     let g = k .before .before .before .before .before .before .before .args in
     publish-there (g .count) (now (g .rw)) (now (g .ro)) (now (g .bank)) (entered k) (g .part) (g .lane) (not-false _ (c .before .before .if1 .left))
 
-find-requires : tie.Need-find-requires
-find-requires c κs = search needs
+admit-entry-requires : tie.Need-admit-entry-requires
+admit-entry-requires c κs = search needs
 
 enum-known-found : tie.Need-enum-known-found
 enum-known-found c = search needs
@@ -168,7 +169,7 @@ pub publish-spec : {M : Type 1} → statement M
 publish-spec =
     tie.close
     (tie.spec
-    find-requires
+    admit-entry-requires
     enum-known-found
     enum-told
     refused-requires

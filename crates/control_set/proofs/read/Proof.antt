@@ -16,13 +16,14 @@ use Rattle.rules.specs.Bank.{bankPlan, bankDoes}
 use Rattle.rules.proofs.Steps.{meets}
 use Rattle.rules.proofs.Places.{Field}
 use Rattle.control_set.proofs.Ways.{call-10, call-11, call-done}
-use Rattle.control_set.proofs.Enters.{Entered, EntryGated, found-gated, entered-opened, call-unfound, no-read, read-tested, read-directed, read-there, spot-there, number-there}
+use Rattle.control_set.specs.Gate.{Entered, EntryGated}
+use Rattle.control_set.proofs.Enters.{entered-opened, call-unfound, no-read, read-tested, read-directed, read-there, spot-there, number-there}
 use Rattle.control_set.proofs.read.Statement.{statement}
 use Rattle.control_set.proofs.read.Tie as tie
 
 -- what the search gives, and the entry that is found, in what the pattern binds
-gated : (c : tie.After-find) → let g = c .before .before .before .before .args in EntryGated (g .count) (now (g .rw)) (now (g .ro)) (length (now (g .bank))) (g .entry) (c .find .result)
-gated c = let g = c .before .before .before .before .args in found-gated (g .count) (now (g .rw)) (now (g .ro)) (length (now (g .bank))) (g .entry) (c .find .result) (c .find .ensures)
+gated : (c : tie.After-admit-entry) → let g = c .before .before .before .before .args in EntryGated (g .count) (now (g .rw)) (now (g .ro)) (length (now (g .bank))) (g .entry) (c .admit-entry .result)
+gated c = c .admit-entry .ensures
 
 entered : (c : tie.After-known-told) →
     let g = c .before .before .before .before .before .before .before .args in
@@ -53,8 +54,8 @@ field c =
 most : (c : tie.After-struct-told) → let x = c .before .before .before .before .before .before .before .found .given .0 .0 in toZ w64 (ofZ w64 (x .most)) ≡ x .most
 most c = search needs
 
-find-requires : tie.Need-find-requires
-find-requires c κs = search needs
+admit-entry-requires : tie.Need-admit-entry-requires
+admit-entry-requires c κs = search needs
 
 enum-known-found : tie.Need-enum-known-found
 enum-known-found c = search needs
@@ -110,7 +111,7 @@ pub read-spec : {M : Type 1} → statement M
 read-spec =
     tie.close
     (tie.spec
-    find-requires
+    admit-entry-requires
     enum-known-found
     enum-told
     refused-requires

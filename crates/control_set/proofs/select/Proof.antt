@@ -90,20 +90,11 @@ returns-4 c =
 cast-bank : tie.Need-cast-bank
 cast-bank c = let z = small c in omega arith
 
-mul-bank : tie.Need-mul-bank
-mul-bank c = let z = small c in omega arith
-
-add-bank : tie.Need-add-bank
-add-bank c = let z = small c in omega arith
-
-sub-bank : tie.Need-sub-bank
-sub-bank c = let z = small c in omega arith
-
-add-bank-2 : tie.Need-add-bank-2
-add-bank-2 c = let z = small c in omega arith
+app-sel-at-requires : tie.Need-app-sel-at-requires
+app-sel-at-requires c κs = let z = small c in (z .set, z .low, z .top)
 
 slice-write-bank : tie.Need-slice-write-bank
-slice-write-bank c = let z = small c in omega (arith, opened (c .before .before .before) .size-is)
+slice-write-bank c = omega (arith, c .app-sel-at .ensures .1, opened (c .before .before .before .before) .size-is)
 
 same-length : tie.Need-same-length
 same-length c = search needs
@@ -111,8 +102,9 @@ same-length c = search needs
 returns-5 : tie.Need-returns-5
 unfolding bankPlan bankDoes
 returns-5 c =
-    let g = c .before .before .before .before .before .before .before .before .before .args in
-    meets (call-done (g .count) (now (g .rw)) (now (g .ro)) (Call.Select (g .set) (g .lane) (g .app)) (now (g .bank)) (opened (c .before .before .before)) (there (c .before .before)) (may (c .before)) (fine c) refl) refl refl
+    let k = c .before in
+    let g = k .before .before .before .before .before .before .before .before .before .args in
+    meets (call-done (g .count) (now (g .rw)) (now (g .ro)) (Call.Select (g .set) (g .lane) (g .app)) (now (g .bank)) (opened (k .before .before .before)) (there (k .before .before)) (may (k .before)) (fine k) refl) refl (rw (c .app-sel-at .ensures .0) refl)
 
 pub select-spec : {M : Type 1} → statement M
 select-spec =
@@ -126,10 +118,7 @@ select-spec =
     returns-3
     returns-4
     cast-bank
-    mul-bank
-    add-bank
-    sub-bank
-    add-bank-2
+    app-sel-at-requires
     slice-write-bank
     same-length
     returns-5)

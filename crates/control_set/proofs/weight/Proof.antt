@@ -16,13 +16,14 @@ use Rattle.control_set.specs.Values.{numberBy}
 use Rattle.control_set.proofs.Spots.{bits-at-lt}
 use Rattle.control_set.proofs.Signs.{number-bits}
 use Rattle.control_set.proofs.Values.{number-weighed}
-use Rattle.control_set.proofs.Enters.{Entered, EntryGated, found-gated, weight-unfound, weight-10, weight-spot, weight-is}
+use Rattle.control_set.specs.Gate.{Entered, EntryGated}
+use Rattle.control_set.proofs.Enters.{weight-unfound, weight-10, weight-spot, weight-is}
 use Rattle.control_set.proofs.weight.Statement.{statement}
 use Rattle.control_set.proofs.weight.Tie as tie
 
 -- what the search gives, and the entry that is found, in what the pattern binds
-gated : (c : tie.After-find) → let g = c .before .before .before .before .args in EntryGated (g .count) (now (g .rw)) (now (g .ro)) (length (now (g .bank))) (g .entry) (c .find .result)
-gated c = let g = c .before .before .before .before .args in found-gated (g .count) (now (g .rw)) (now (g .ro)) (length (now (g .bank))) (g .entry) (c .find .result) (c .find .ensures)
+gated : (c : tie.After-admit-entry) → let g = c .before .before .before .before .args in EntryGated (g .count) (now (g .rw)) (now (g .ro)) (length (now (g .bank))) (g .entry) (c .admit-entry .result)
+gated c = c .admit-entry .ensures
 
 entered : (c : tie.After-known-told) →
     let g = c .before .before .before .before .before .before .before .args in
@@ -36,8 +37,8 @@ numbered : (c : tie.After-number-of) →
     toZ w64 (ofZ w64 (c .number-of .result)) ≡ numberBy (pos 127) (bitsAt (now (g .bank)) 2 (k .before .found .given .0 .0 .offset) 0 8 (g .lane))
 numbered c = toZ-ofZ (record { sfits = c .number-of .ok }) ∙ c .number-of .ensures ∙ ap (numberBy (pos 127)) (c .before .read-field .ensures)
 
-find-requires : tie.Need-find-requires
-find-requires c κs = search needs
+admit-entry-requires : tie.Need-admit-entry-requires
+admit-entry-requires c κs = search needs
 
 enum-known-found : tie.Need-enum-known-found
 enum-known-found c = search needs
@@ -88,7 +89,7 @@ pub weight-spec : {M : Type 1} → statement M
 weight-spec =
     tie.close
     (tie.spec
-    find-requires
+    admit-entry-requires
     enum-known-found
     enum-told
     refused-requires

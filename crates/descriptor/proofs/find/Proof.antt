@@ -17,12 +17,12 @@ use Rattle.descriptor.proofs.find.Tie as tie
 reads : (c : tie.After-known-told2) →
     let g = c .before .before .before .before .before .before .before .args in
     let x = c .before .place2 .given .0 in
-    (Found.In (namedOf (x .0) (entryAt (maskBytes (g .count)) (cond (x .0) (now (g .ro)) (now (g .rw))) (standingAt (x .1 .0) (x .1 .1 .1 .0)))) ≡ foundOf (g .count) (now (g .rw)) (now (g .ro)) (g .size) (g .entry))
+    (Found.In (namedOf (x .0) (entryAt (maskBytes (g .count)) (cond (x .0) (now (g .ro)) (now (g .rw))) (standingAt (x .1 .0) (x .1 .1 .1 .0)))) ≡ foundOf (g .count) (now (g .rw)) (now (g .ro)) (g .short) (g .entry))
     × (x .1 .0 ≤ 120)
 reads c =
     let k = c .before .before .before in
     let g = k .before .before .before .before .args in
-    located-found (g .count) (now (g .rw)) (now (g .ro)) (g .size) (g .entry) (k .before .if1 .left) _ _ _ _ (sym (k .locate .ensures) ∙ c .before .place2 .given .1)
+    located-found (g .count) (now (g .rw)) (now (g .ro)) (g .short) (g .entry) (k .before .if1 .left) _ _ _ _ (sym (k .locate .ensures) ∙ c .before .place2 .given .1)
 
 limits-requires : tie.Need-limits-requires
 limits-requires c κs = search needs
@@ -31,13 +31,13 @@ returns : tie.Need-returns
 returns c =
     let k = c .before in
     let g = k .before .before .before .before .args in
-    found-9 (g .count) (now (g .rw)) (now (g .ro)) (g .size) (g .entry) (sym (k .limits .ensures) ∙ not-true _ (c .if2 .taken))
+    found-9 (g .count) (now (g .rw)) (now (g .ro)) (g .short) (g .entry) (sym (k .limits .ensures) ∙ not-true _ (c .if2 .taken))
 
 returns-2 : tie.Need-returns-2
 returns-2 c =
     let k = c .before in
     let g = k .before .before .before .before .args in
-    found-8 (g .count) (now (g .rw)) (now (g .ro)) (g .size) (g .entry) (sym (k .limits .ensures) ∙ not-false _ (c .if2 .left)) (k .before .if1 .taken)
+    found-8 (g .count) (now (g .rw)) (now (g .ro)) (g .short) (g .entry) (sym (k .limits .ensures) ∙ not-false _ (c .if2 .left)) (k .before .if1 .taken)
 
 locate-requires : tie.Need-locate-requires
 locate-requires c κs = search needs
@@ -71,7 +71,7 @@ returns-4 : tie.Need-returns-4
 returns-4 c =
     let k = c .before .before .before in
     let g = k .before .before .before .before .args in
-    located-refused-found (g .count) (now (g .rw)) (now (g .ro)) (g .size) (g .entry) (k .before .if1 .left) _ (sym (k .locate .ensures) ∙ c .before .place .given .1)
+    located-refused-found (g .count) (now (g .rw)) (now (g .ro)) (g .short) (g .entry) (k .before .if1 .left) _ (sym (k .locate .ensures) ∙ c .before .place .given .1)
 
 returns-5 : tie.Need-returns-5
 returns-5 c =

@@ -1,11 +1,13 @@
 -- `place` meets its contract.
-use mathlib.Core.Path.{sym, _∙_}
+use mathlib.Core.Path.{refl, sym, _∙_}
+use mathlib.Core.Bool.{false}
 use Prim.Native.Nat.{_≤_, _<_}
 use native.Mathlib.Omega.{arith}
 use denote.Ref.{now}
 use borrow.Author.Tests.{not-true, not-false}
 use Rattle.rules.proofs.PlaceCalls.{place-refused}
-use Rattle.descriptor.proofs.Finds.{InMap, found-refused, found-in}
+use Rattle.descriptor.specs.Find.{InMap}
+use Rattle.descriptor.proofs.Finds.{found-refused, found-in}
 use Rattle.placement.proofs.Placing.{offset-small, parts-small, width-small, placing-10, placing-11, placing-at}
 use Rattle.placement.proofs.Small.{product-fits, part-fits, place-fits, There, there}
 use borrow.Author.Needs.{needs}
@@ -19,7 +21,7 @@ in-map : (c : tie.After-known-told2) →
 in-map c =
     let k = c .before .before .before in
     let g = k .before .before .before .args in
-    found-in (g .count) (now (g .rw)) (now (g .ro)) 784 (g .entry) (omega arith) _ (sym (k .find .ensures) ∙ c .before .found2 .given .1)
+    found-in (g .count) (now (g .rw)) (now (g .ro)) false (g .entry) refl _ (sym (k .find .ensures) ∙ c .before .found2 .given .1)
 
 -- the part and the lane are there
 asked : (c : tie.Else2) → let g = c .before .before .before .before .before .before .before .before .before .before .args in There (g .part) (g .lane)
@@ -84,7 +86,7 @@ returns-3 c =
     let k = c .before .before .before in
     let g = k .before .before .before .args in
     place-refused (g .count) (now (g .rw)) (now (g .ro)) (g .set) (g .entry) (g .part) (g .lane) _
-    (found-refused (g .count) (now (g .rw)) (now (g .ro)) 784 (g .entry) (omega arith) _ (sym (k .find .ensures) ∙ c .before .found .given .1))
+    (found-refused (g .count) (now (g .rw)) (now (g .ro)) false (g .entry) refl _ (sym (k .find .ensures) ∙ c .before .found .given .1))
 
 returns-4 : tie.Need-returns-4
 returns-4 c =

@@ -89,7 +89,7 @@ copy-chosen-requires c κs =
     let l = c .before .before .before in
     let s = l .before .before .before .before in
     let k = l .loop .inv .1 .kept in
-    (asked-kept (s .pre .1 .0) k, spread (c .before), wants-kept (s .args .chosen) k (s .args .apps) (s .pre .1 .1), clear-kept (s .args .chosen) k (s .pre .1 .2))
+    (asked-kept (s .pre .1 .0) k, spread (c .before), wants-kept (s .args .chosen) (s .pre .1 .0 .staged) k (s .args .apps) (s .pre .1 .1), clear-kept (s .args .chosen) (s .pre .1 .0 .staged) k (s .pre .1 .2))
 
 add-number : tie.Need-add-number Inv-loop μ-loop
 add-number c = search needs

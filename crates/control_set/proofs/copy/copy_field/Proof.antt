@@ -1,10 +1,10 @@
 -- `copy_field` meets its contract.
 use borrow.Author.Needs.{needs}
-use mathlib.Core.Path.{ap, _∙_}
+use mathlib.Core.Path.{refl, _∙_}
 use native.Mathlib.Omega.{arith}
 use denote.Ref.{now}
 use Rattle.rules.specs.Place.{laneBit}
-use Rattle.control_set.specs.Field.{withBits}
+use Rattle.rules.proofs.BankLayout.{size-is, set-start-last}
 use Rattle.control_set.proofs.Spots.{spot-room, bits-at-lt}
 use Rattle.control_set.proofs.Copies.{merge-mid}
 use Rattle.control_set.proofs.copy.copy_field.Statement.{statement}
@@ -23,7 +23,7 @@ part-put-bits-start : tie.Need-part-put-bits-start
 part-put-bits-start c = search needs
 
 part-put-bits-end : tie.Need-part-put-bits-end
-part-put-bits-end c = search needs
+part-put-bits-end c = omega (arith, size-is, c .before .before .before .before .pre .size)
 
 put-bits-requires : tie.Need-put-bits-requires
 put-bits-requires c κs =
@@ -31,7 +31,7 @@ put-bits-requires c κs =
     let r = p .before in
     let s = r .before .before .before in
     rw (p .place-of .ensures .0, p .place-of .ensures .1)
-    (omega (arith, s .pre .inside, s .pre .size), spot-room (s .pre), rw (r .read-field .ensures) (bits-at-lt (now (s .args .bank)) _ _ _ _ _))
+    (omega (arith, size-is, s .pre .inside, s .pre .size), spot-room (s .pre), rw (r .read-field .ensures) (bits-at-lt (now (s .args .bank)) _ _ _ _ _))
 
 same-length : tie.Need-same-length
 same-length c = search needs
@@ -43,9 +43,9 @@ returns c =
     let r = p .before in
     let s = r .before .before .before in
     let g = s .args in
-    rw (q .put-bits .ensures, p .place-of .ensures .0, p .place-of .ensures .1)
-    (merge-mid 512 256 _ (now (g .bank)) (s .pre .inside) (omega (arith, s .pre .size)) (laneBit (g .width) (g .lane)) (g .width) _
-    ∙ ap (withBits (now (g .bank)) 2 (g .offset) (g .part) (g .width) (g .lane)) (r .read-field .ensures))
+    rw (q .put-bits .ensures, p .place-of .ensures .0, p .place-of .ensures .1, set-start-last 2 (omega arith))
+    (merge-mid 512 256 _ (now (g .bank)) (s .pre .inside) (omega (arith, size-is, s .pre .size)) (laneBit (g .width) (g .lane)) (g .width) _
+    ∙ rw (r .read-field .ensures) refl)
 
 pub copy-field-spec : {M : Type 1} → statement M
 copy-field-spec =

@@ -8,6 +8,7 @@ use Prim.Native.Nat.{_≤_}
 use denote.Ref.{now}
 use borrow.Author.Tests.{not-true, not-false}
 use Rattle.rules.specs.Load.{sized}
+use Rattle.rules.proofs.BankLayout.{size-is}
 use Rattle.rules.proofs.Steps.{bank-order-9, bank-order-8}
 use Rattle.descriptor.proofs.Covers.{Covering, cover-one}
 use Rattle.control_set.proofs.ByteWays.{byte-refused, byte-none, byte-10, byte-small, byte-has}
@@ -35,7 +36,7 @@ returns : tie.Need-returns
 returns c = λ rest _. let g = c .before .before .before .before .args in bank-order-9 (g .count) (now (g .rw)) (now (g .ro)) rest (g .size) (sym (c .before .limits .ensures) ∙ not-true _ (c .if1 .taken))
 
 returns-2 : tie.Need-returns-2
-returns-2 c = λ rest _. let g = c .before .before .before .before .before .args in bank-order-8 (g .count) (now (g .rw)) (now (g .ro)) rest (g .size) (fine (c .before)) (c .if2 .taken)
+returns-2 c = λ rest _. let g = c .before .before .before .before .before .args in bank-order-8 (g .count) (now (g .rw)) (now (g .ro)) rest (g .size) (fine (c .before)) (omega (arith, size-is, c .if2 .taken))
 
 cover-requires : tie.Need-cover-requires
 cover-requires c κs = search needs
@@ -54,7 +55,7 @@ returns-3 c =
     let t = c .before in
     let e = t .before .before .before .before in
     let g = e .before .before .before .before .before .args in
-    byte-10 (g .count) (now (g .rw)) (now (g .ro)) (g .size) (g .set) (g .offset) (fine (e .before)) (e .if2 .left) (covering t) (not-true _ (c .if3 .taken))
+    byte-10 (g .count) (now (g .rw)) (now (g .ro)) (g .size) (g .set) (g .offset) (fine (e .before)) (omega (arith, size-is, e .if2 .left)) (covering t) (not-true _ (c .if3 .taken))
 
 shape-of-requires : tie.Need-shape-of-requires
 shape-of-requires c κs = search needs
@@ -64,7 +65,7 @@ sub-t26 c =
     let t = c .before .before in
     let e = t .before .before .before .before in
     let g = e .before .before .before .before .before .args in
-    byte-small (g .count) (now (g .rw)) (now (g .ro)) (g .size) (g .set) (g .offset) (fine (e .before)) (e .if2 .left) (covering t) .0
+    byte-small (g .count) (now (g .rw)) (now (g .ro)) (g .size) (g .set) (g .offset) (fine (e .before)) (omega (arith, size-is, e .if2 .left)) (covering t) .0
 
 mul-t27 : tie.Need-mul-t27
 mul-t27 c =
@@ -79,14 +80,14 @@ returns-4 c =
     let k = c .before .before .before in
     let e = k .before in
     let g = e .before .before .before .before .before .args in
-    λ rest _. byte-refused (g .count) (now (g .rw)) (now (g .ro)) (g .size) (g .set) (g .offset) (fine (e .before)) (e .if2 .left) _ (sym (k .cover .ensures) ∙ c .before .covered .given .1) rest
+    λ rest _. byte-refused (g .count) (now (g .rw)) (now (g .ro)) (g .size) (g .set) (g .offset) (fine (e .before)) (omega (arith, size-is, e .if2 .left)) _ (sym (k .cover .ensures) ∙ c .before .covered .given .1) rest
 
 returns-5 : tie.Need-returns-5
 returns-5 c =
     let k = c .before .before in
     let e = k .before in
     let g = e .before .before .before .before .before .args in
-    byte-none (g .count) (now (g .rw)) (now (g .ro)) (g .size) (g .set) (g .offset) (fine (e .before)) (e .if2 .left) (sym (k .cover .ensures) ∙ c .enum-told .given .1)
+    byte-none (g .count) (now (g .rw)) (now (g .ro)) (g .size) (g .set) (g .offset) (fine (e .before)) (omega (arith, size-is, e .if2 .left)) (sym (k .cover .ensures) ∙ c .enum-told .given .1)
 
 returns-6 : tie.Need-returns-6
 returns-6 c =
@@ -94,7 +95,7 @@ returns-6 c =
     let t = h .before .before in
     let e = t .before .before .before .before in
     let g = e .before .before .before .before .before .args in
-    byte-has (g .count) (now (g .rw)) (now (g .ro)) (g .size) (g .set) (g .offset) (fine (e .before)) (e .if2 .left) (covering t) (h .shape-of .ensures .0) (not-false _ (h .before .if3 .left))
+    byte-has (g .count) (now (g .rw)) (now (g .ro)) (g .size) (g .set) (g .offset) (fine (e .before)) (omega (arith, size-is, e .if2 .left)) (covering t) (h .shape-of .ensures .0) (not-false _ (h .before .if3 .left))
 
 pub admit-byte-spec : {M : Type 1} → statement M
 admit-byte-spec =
