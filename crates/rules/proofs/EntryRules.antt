@@ -1,22 +1,21 @@
 -- The checks of one entry, 1 to 7, against the rules of 01: the first check that an entry fails is the first rule that applies.
 use mathlib.Core.Path.{_≡_, refl, sym}
 use mathlib.Core.Logic.{_↔_, Iff·trans}
-use mathlib.Core.Bool.{Bool, true, false, _&&_, _||_, not, Bool·beq}
+use mathlib.Core.Bool.{Bool, true, false, _&&_, _||_, not}
 use mathlib.Core.List.{List, [], _∷_}
 use Prim.Native.Nat.{ℕ, _+_, _-_, _%_, _≤_, _<_}
 use native.Mathlib.Omega.{arith}
-use native.Mathlib.Decide.{decLt}
 use lib.ListN.{length, List·getD-eq-default}
 use lib.Dec.{T, ltb, leb, eqb, ltb→lt, lt→ltb, eqb→eq}
 use borrow.Author.Tests.{lt-leb, ne-eqb, eqb-false}
 use Rattle.rules.specs.Words.{Entry, Decoded, decoded, failed, State}
-use Rattle.rules.specs.Numbers.{any}
 use Rattle.rules.specs.Parameter.{both, Extras, none, codes, indexCodes, indexStep, rows, space, rowOf}
 use Rattle.rules.specs.Descriptor.{byteAt, stepOf, entryAt, mayStand, lateHost, refuse, lengthChecks, contentChecks, decodeAt}
 use Rattle.rules.specs.Conditions.{Rule, gives, First, WrongString, InTable, MediaSide, entryRules}
 use Rattle.rules.proofs.Tests.{from-true, and-no}
-use Rattle.rules.proofs.Any.{any-here}
 use Rattle.rules.proofs.Facts.{lt-says, le-says, eq-says, true-says, not-says, or-says, and-says, and-says₄}
+use Rattle.rules.proofs.Ids.{by-row}
+use Rattle.rules.proofs.Columns.{least-says, needed-says}
 use Rattle.rules.proofs.Firsts.{first-here, first-past}
 
 -- a chain of checks fails by the first of some rules
@@ -36,21 +35,6 @@ before {C} {d} {rules} true k h f = record { is = λ n. Iff·trans (fails n) (fi
     fails n = (λ q. let e : n ≡ k = cc in (e, h .0 tt), λ q. let e : n ≡ k = q .0 in rw e refl)
 before {C} {d} {rules} false k h f = record { is = λ n. Iff·trans (f .is n) (first-past (gives k C) rules (λ y z. h .1 (z .1)) n) }
 
--- two tests on IDs that agree at every row, and at each ID past the rows
-by-row :
-    (f g : ℕ → Bool) → ¬ (T (any 19 (λ id. not (Bool·beq (f id) (g id))))) → ((id : ℕ) → 19 ≤ id → f id ≡ g id) → (id : ℕ) → f id ≡ g id
-by-row f g low high id = go (decLt id 19)
-  where
-    near : id < 19 → (t u : Bool) → f id ≡ t → g id ≡ u → t ≡ u
-    near l true true q r = refl
-    near l true false q r = absurd (low (any-here 19 _ id l (rw (q, r) tt)))
-    near l false true q r = absurd (low (any-here 19 _ id l (rw (q, r) tt)))
-    near l false false q r = refl
-
-    go : Dec (id < 19) → f id ≡ g id
-    go (yes l) = near l (f id) (g id) refl refl
-    go (no l) = high id (omega arith)
-
 pub row-past : (id : ℕ) → 19 ≤ id → rowOf id ≡ space both
 unfolding rowOf
 row-past id h = List·getD-eq-default rows (space both) h
@@ -69,9 +53,9 @@ wrong-past true id h = rw (row-past id h, lt-leb id 0x10 (omega arith), and-no (
 wrong-past false id h = rw (row-past id h, lt-leb id 0x12 (omega arith), and-no (leb 0x11 id))
 
 side-wrong : (ro : Bool) (id : ℕ) → not (mayStand (rowOf id .side) ro) ≡ wrong ro id
-unfolding any rowOf
-side-wrong true = by-row (λ id. not (mayStand (rowOf id .side) true)) (wrong true) (λ h. h) (wrong-past true)
-side-wrong false = by-row (λ id. not (mayStand (rowOf id .side) false)) (wrong false) (λ h. h) (wrong-past false)
+unfolding rowOf
+side-wrong true = by-row (λ id. not (mayStand (rowOf id .side) true)) (wrong true) tt (wrong-past true)
+side-wrong false = by-row (λ id. not (mayStand (rowOf id .side) false)) (wrong false) tt (wrong-past false)
 
 side-says : (ro : Bool) (id : ℕ) → T (not (mayStand (rowOf id .side) ro)) ↔ WrongString ro id
 side-says ro id = rw (side-wrong ro id) (wrong-says ro id)
@@ -87,8 +71,8 @@ step-past : (id : ℕ) → 19 ≤ id → hasStep (rowOf id .extras) ≡ eqb id 0
 step-past id h = rw (row-past id h, ne-eqb id 0x12 (omega arith))
 
 step-row : (id : ℕ) → hasStep (rowOf id .extras) ≡ eqb id 0x12
-unfolding any rowOf
-step-row = by-row (λ id. hasStep (rowOf id .extras)) (λ id. eqb id 0x12) (λ h. h) step-past
+unfolding rowOf
+step-row = by-row (λ id. hasStep (rowOf id .extras)) (λ id. eqb id 0x12) tt step-past
 
 step-says :
     (id : ℕ) (s : List ℕ) (at : ℕ)
@@ -120,8 +104,8 @@ parts-past id h =
     rw (row-past id h, lt-leb id 0x08 (omega arith), lt-leb id 0x12 (omega arith), and-no (leb 0x02 id), and-no (leb 0x0F id))
 
 parts-row : (id : ℕ) → ltb 0 (rowOf id .parts) ≡ inTable id
-unfolding any rowOf
-parts-row = by-row (λ id. ltb 0 (rowOf id .parts)) inTable (λ h. h) parts-past
+unfolding rowOf
+parts-row = by-row (λ id. ltb 0 (rowOf id .parts)) inTable tt parts-past
 
 module _ (a : ℕ) (s : List ℕ) (st : State) where
   abbrev id : ℕ
@@ -144,9 +128,9 @@ module _ (a : ℕ) (s : List ℕ) (st : State) where
       let left : ℕ = length s - st .at in
       let q : st .at + 5 + a ≡ st .at + 4 + a + 1 = omega arith in
       before _ 1 (or-says (eqb left 1) (ltb left (e .length)) (eq-says left 1) (lt-says left (e .length)))
-      (before _ 2 (lt-says (e .length) (rowOf (e .id) .least + a))
+      (before _ 2 (least-says (e .id) a (e .length))
       (before _ 3 (side-says ro (e .id))
-      (before _ 4 (lt-says (e .memory) (rowOf (e .id) .needed))
+      (before _ 4 (needed-says (e .id) (e .memory))
       (before _ 5 (rw q (step-says (e .id) s (st .at + 4 + a)))
       (before _ 6 late-says
       (before _ 7 (lt-says 256 (st .sum + e .memory))

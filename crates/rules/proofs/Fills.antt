@@ -13,8 +13,10 @@ use Rattle.rules.specs.Words.{Entry, Decoded, decoded, failed, State, Wa
 use Rattle.rules.specs.Descriptor.{maskBytes, entryAt, decodeAt}
 use Rattle.rules.specs.Load.{start, next, intoRO, foldBy, foldOf, onward, walkOf, gather, entriesFrom, rwEntries, roEntries}
 use Rattle.rules.specs.Place.{nothing}
+use Rattle.rules.specs.Columns.{ExtrasRead}
 use Rattle.rules.specs.Demands.{Accepted, lengths, Fills}
 use Rattle.rules.proofs.Checks.{decode-passed}
+use Rattle.rules.proofs.Columns.{extras-say}
 use Rattle.rules.proofs.Walks.{Map-accepted, load-accepted}
 
 -- an entry that passes the checks at a place of a string
@@ -92,6 +94,10 @@ module _ (ro : Bool) (a : ℕ) (s : List ℕ) where
       → Stands ro a s from e
       → e ≡ entryAt a s (record { at = e .start; number = n; sum = e .offset; media = false })
   stands-says {from} {e} n g = rw (decode-passed ro a s (g .st) e (g .passes) .entry) refl
+
+  pub filled-extras : (l : List Entry) → Filled ro a s 0 l → (n : ℕ) → n < length l → ExtrasRead a s (getD l n nothing)
+  filled-extras l g n h =
+      let w = filled-nth l n g h in extras-say a s (w .st) (decode-passed ro a s (w .st) (getD l n nothing) (w .passes) .entry)
 
   filled-fills : (l : List Entry) → Filled ro a s 0 l → Fills a s l
   filled-fills l g =

@@ -1,6 +1,6 @@
 -- A test that holds at every ID: computed at each ID that the table names, and shown once for all others.
-use mathlib.Core.Path.{_≡_}
-use mathlib.Core.Bool.{Bool, true, _&&_}
+use mathlib.Core.Path.{_≡_, refl}
+use mathlib.Core.Bool.{Bool, true, false, _&&_, Bool·beq}
 use Prim.Native.Nat.{ℕ, zero, suc, _≤_, _<_}
 use native.Mathlib.Omega.{arith}
 use native.Mathlib.Decide.{ℕ-discrete, decLt}
@@ -25,3 +25,18 @@ every-id f t rest id = go (decLt id 19)
     go : Dec (id < 19) → T (f id)
     go (yes l) = below-at 19 f t id l
     go (no l) = rest id (omega arith)
+
+-- two tests that agree at every ID
+pub by-row :
+    (f g : ℕ → Bool) → T (below 19 (λ id. Bool·beq (f id) (g id))) → ((id : ℕ) → 19 ≤ id → f id ≡ g id) → (id : ℕ) → f id ≡ g id
+by-row f g low high id = go (decLt id 19)
+  where
+    same : (t u : Bool) → T (Bool·beq t u) → t ≡ u
+    same true true h = refl
+    same true false h = absurd h
+    same false true h = absurd h
+    same false false h = refl
+
+    go : Dec (id < 19) → f id ≡ g id
+    go (yes l) = same (f id) (g id) (below-at 19 (λ k. Bool·beq (f k) (g k)) low id l)
+    go (no l) = high id (omega arith)

@@ -9,6 +9,7 @@ pub mod Tile
 pub mod Codes
 pub mod Rows
 pub mod Ids
+pub mod Columns
 pub mod Checks
 pub mod Folds
 pub mod Good

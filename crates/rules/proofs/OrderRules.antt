@@ -16,6 +16,7 @@ use Rattle.rules.specs.Refuse.{Verdict, refuses, check9, check8, refusal
 use Rattle.rules.specs.Bank.{Bank}
 use Rattle.rules.specs.Conditions.{Rule, gives, First, Sized, Lane, HasField, Exists, Misdirected, Unaccepted, stringsRule, callRules, stringRules, bankRules}
 use Rattle.rules.proofs.Facts.{lt-says, le-says, eq-says, not-says, or-says, and-says, and-says₃, and-says₄}
+use Rattle.rules.proofs.Columns.{accepts-says}
 use Rattle.rules.proofs.Firsts.{Says, AllSay, none, also, first-says, refuse-says, refuse-not-says}
 use Rattle.rules.proofs.Stops.{strings-says}
 
@@ -60,11 +61,11 @@ module _ (m : Map) where
   unaccepted-says : (c : Call) → T (unaccepted m c) ↔ Unaccepted m c
   unfolding unaccepted
   unaccepted-says (select s i a) = lt-says (m .count) a
-  unaccepted-says (write s e p i v) = not-says (accepts (entry m e) v) Iff·rfl
+  unaccepted-says (write s e p i v) = not-says (accepts (entry m e) v) (accepts-says (entry m e) v)
   unaccepted-says (read s e p i) = Iff·rfl
   unaccepted-says (byteWrite s k v) = Iff·rfl
   unaccepted-says (byteRead s k) = Iff·rfl
-  unaccepted-says (publish e p i v) = not-says (accepts (entry m e) v) Iff·rfl
+  unaccepted-says (publish e p i v) = not-says (accepts (entry m e) v) (accepts-says (entry m e) v)
   unaccepted-says (apply s lanes) = Iff·rfl
 
   pub judge-says : (c : Call) → AllSay (judge m c) (callRules m c)

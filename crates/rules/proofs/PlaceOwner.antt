@@ -1,7 +1,7 @@
 -- DEMAND 2: the place call and the owner call, on accepted strings, agree both ways.
 use mathlib.Core.Path.{_≡_, refl, sym, ap, _∙_}
 use mathlib.Core.Logic.{_⊎_, inl, inr}
-use mathlib.Core.Bool.{_&&_, not, cond}
+use mathlib.Core.Bool.{true, false, _&&_, not, cond}
 use mathlib.Core.List.{List, [], _∷_}
 use Prim.Native.Nat.{ℕ, zero, suc, _+_, _<_}
 use native.Mathlib.Omega.{arith}
@@ -9,18 +9,20 @@ use lib.ListN.{length, getD, take}
 use lib.Dec.{T, ltb, leb, ltb→lt, lt→ltb, le→leb}
 use borrow.Author.Tests.{lt-ltb}
 use Rattle.rules.specs.Words.{plain, Entry, read, placedAt, ownedBy, gap, notOwned}
-use Rattle.rules.specs.Load.{Map, mapOf, total}
+use Rattle.rules.specs.Descriptor.{maskBytes}
+use Rattle.rules.specs.Load.{Map, rwEntries, roEntries, mapOf, total}
 use Rattle.rules.specs.Place.{nothing, entry, partsOf, widthOf, isSet, isStaged, isRW, heldBy, lengthOf, fieldByte, fieldBit, covers, ownerOf}
 use Rattle.rules.specs.Refuse.{Verdict, passes, refuses, refuseIf, firstOf, exists, misdirected, unaccepted, judge}
 use Rattle.rules.specs.Beside.{placed, placeOf, owned, isBit, ownerCall}
 use Rattle.rules.specs.Demands.{Accepted, PlaceCovers, OwnerAndPlace}
 use Rattle.rules.proofs.Tests.{and₂, either, is-true, is-false, both-true}
+use Rattle.rules.proofs.Columns.{accepts-says, shape-says, sign-says}
 use Rattle.rules.proofs.Lanes.{width-pos}
 use Rattle.rules.proofs.Good.{Good, GoodMap, held-lt}
 use Rattle.rules.proofs.Walks.{map-good, load-counts, check9-passes, check1to7-passes}
 use Rattle.rules.proofs.Places.{Field, holds-field, covers-bit, field-width, in-entry, in-byte}
 use Rattle.rules.proofs.Allowed.{read-field}
-use Rattle.rules.proofs.Fills.{rw-fills, ro-fills}
+use Rattle.rules.proofs.Fills.{filled-extras, rw-filled, ro-filled, rw-fills, ro-fills}
 use Rattle.rules.proofs.EntryParts.{entry-own}
 use Rattle.rules.proofs.Verdicts.{judge-passes, judged-passes, order-open}
 use Rattle.rules.proofs.Owners.{Covers, covers-says, covers-same, owner-covers, covers-owner, owner-none}
@@ -169,6 +171,11 @@ module _ (count : ℕ) (first last : List ℕ) (ok : Accepted count first last) 
         loads = load-counts count first last ok;
         offsets = λ e h. omega (arith, offset-at 0 (m .entries) (g .list) e h);
         own-bytes = entry-own count first last ok;
+        accepted-values = λ e v. accepts-says (entry m e) v;
+        shapes = λ e. shape-says (entry m e);
+        signs = λ e. sign-says (entry m e);
+        rw-extras = filled-extras false (maskBytes count) first (rwEntries count first) (rw-filled count first last ok);
+        ro-extras = filled-extras true (maskBytes count) last (roEntries count first last) (ro-filled count first last ok);
       }
     where
       lowest : (s e p i k q : ℕ) → placeOf count first last s e p i ≡ placedAt k q → PlaceCovers count first last s e p i k q

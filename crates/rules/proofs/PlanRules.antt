@@ -15,10 +15,12 @@ use Rattle.rules.specs.Place.{entry, partsOf}
 use Rattle.rules.specs.Accept.{accepts}
 use Rattle.rules.specs.Refuse.{passes, refuses, chooses, atLowest}
 use Rattle.rules.specs.Bank.{Bank, numberIn, appSelIn, bankLacksApp, bankCopies, bankHoldsBad, bankPlan}
+use Rattle.rules.specs.Columns.{Accepts}
 use Rattle.rules.specs.Conditions.{Lowest, LacksApp, Copied, HoldsBad, planRules}
 use Rattle.rules.proofs.Tests.{from-true}
 use Rattle.rules.proofs.Any.{any-here, any-some}
 use Rattle.rules.proofs.Facts.{le-says, not-says, and-says, and-says₃}
+use Rattle.rules.proofs.Columns.{accepts-says}
 use Rattle.rules.proofs.Firsts.{Says, AllSay, none, also}
 
 module _ (f : ℕ → Bool) (bad : ℕ → Type 0) (same : (i : ℕ) → T (f i) ↔ bad i) where
@@ -112,8 +114,8 @@ module _ (m : Map) (b : Bank) (s lanes : ℕ) where
     where
       says : (e p : ℕ)
           → T (bankCopies m b s lanes e i && not (accepts (entry m e) (numberIn m b s e p i)))
-          ↔ (Copied m b s lanes e i × ¬ (T (accepts (entry m e) (numberIn m b s e p i))))
-      says e p = and-says (bankCopies m b s lanes e i) _ (copies-says e i) (not-says (accepts (entry m e) (numberIn m b s e p i)) Iff·rfl)
+          ↔ (Copied m b s lanes e i × ¬ (Accepts (entry m e .id) (entry m e .codes) (numberIn m b s e p i)))
+      says e p = and-says (bankCopies m b s lanes e i) _ (copies-says e i) (not-says (accepts (entry m e) (numberIn m b s e p i)) (accepts-says (entry m e) _))
 
       back : HoldsBad m b s lanes i → T (bankHoldsBad m b s lanes i)
       back h =

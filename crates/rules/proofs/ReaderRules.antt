@@ -15,6 +15,7 @@ use Rattle.rules.specs.Refuse.{Verdict, passes, refuses, refuseIf, first
 use Rattle.rules.specs.Reader.{standing, takenOf, takeOf, movedTo}
 use Rattle.rules.specs.Conditions.{First, ReaderSized, readerRules}
 use Rattle.rules.proofs.Facts.{lt-says, eq-says, or-says, and-says}
+use Rattle.rules.proofs.Columns.{least-says}
 use Rattle.rules.proofs.Firsts.{Says, none, also, first-says, refuse-says, refuse-not-says}
 use Rattle.rules.proofs.OrderRules.{not-lt-says, sized-says}
 use Rattle.rules.proofs.Refused.{answer-says}
@@ -71,7 +72,7 @@ module _ (count : ℕ) (s : List ℕ) (position : ℕ) where
       (also
       (refuse-says (more && overruns left e) (plain 1)
       (and-says more (overruns left e) (lt-says _ _) (or-says (eqb left 1) (ltb left (e .length)) (eq-says _ _) (lt-says _ _))))
-      (also (refuse-says (more && short) (plain 2) (and-says more short (lt-says _ _) (lt-says _ _))) none)))
+      (also (refuse-says (more && short) (plain 2) (and-says more short (lt-says _ _) (least-says (e .id) (maskBytes count) (e .length)))) none)))
 
   pub take-says : (x : Refusal) → (takeOf count s position ≡ notTaken x) ↔ First (readerRules count s position) x
   take-says = rw take-order (answer-says notTaken (λ x y h. cc) (given more e) (λ r. refl) order order-says (λ _. given-accepts more e))

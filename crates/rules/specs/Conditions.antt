@@ -9,13 +9,12 @@ use lib.ListN.{length}
 use lib.Dec.{T}
 use Rattle.rules.specs.Words.{Refusal, plain, atEntry, atLane, Entry, decoded, failed, State, Call, select, write, read, byteWrite, byteRead, publish, apply}
 use Rattle.rules.specs.Numbers.{bitOf}
-use Rattle.rules.specs.Parameter.{rowOf}
 use Rattle.rules.specs.Descriptor.{maskBytes, byteAt, decodeAt}
 use Rattle.rules.specs.Load.{start, next, intoRO, Map}
 use Rattle.rules.specs.Place.{entry, partsOf, lengthOf}
-use Rattle.rules.specs.Accept.{accepts}
 use Rattle.rules.specs.Layout.{bankSize}
 use Rattle.rules.specs.Bank.{Bank, appSelIn, numberIn}
+use Rattle.rules.specs.Columns.{Accepts, BelowLeast, BelowNeeded}
 
 -- a rule tells which refusals it gives; A is a refusal, or a number alone
 abbrev pub Rule : Type 0 → Type 1
@@ -54,9 +53,9 @@ entryRules ro a s st =
     let memory : ℕ = byteAt s (st .at + 2 + a) in
     let step : ℕ = byteAt s (st .at + 5 + a) in
     gives 1 ((left ≡ 1) ⊎ (left < size))
-    ∷ gives 2 (size < rowOf id .least + a)
+    ∷ gives 2 (BelowLeast a id size)
     ∷ gives 3 (WrongString ro id)
-    ∷ gives 4 (memory < rowOf id .needed)
+    ∷ gives 4 (BelowNeeded id memory)
     ∷ gives 5 ((id ≡ 0x12) × (3 < step))
     ∷ gives 6 ((0x02 ≤ id) × (id ≤ 0x08) × (¬ (MediaSide a s (st .at))) × (st .media ≡ true))
     ∷ gives 7 (256 < st .sum + memory)
@@ -127,11 +126,11 @@ Misdirected m (apply s lanes) = s ≡ 2
 -- 12: "value or app not accepted"
 abbrev pub Unaccepted : Map → Call → Type 0
 Unaccepted m (select s i a) = m .count < a
-Unaccepted m (write s e p i v) = ¬ (T (accepts (entry m e) v))
+Unaccepted m (write s e p i v) = ¬ (Accepts (entry m e .id) (entry m e .codes) v)
 Unaccepted m (read s e p i) = ⊥
 Unaccepted m (byteWrite s k v) = ⊥
 Unaccepted m (byteRead s k) = ⊥
-Unaccepted m (publish e p i v) = ¬ (T (accepts (entry m e) v))
+Unaccepted m (publish e p i v) = ¬ (Accepts (entry m e .id) (entry m e .codes) v)
 Unaccepted m (apply s lanes) = ⊥
 
 -- The host's plan, "at apply, with the lowest such lane"
@@ -160,7 +159,7 @@ pub record HoldsBad (m : Map) (b : Bank) (s lanes i : ℕ) : Type 0 where
   pub ent : e < m .rwCount
   pub part : p < partsOf (entry m e)
   pub copied : Copied m b s lanes e i
-  pub bad : ¬ (T (accepts (entry m e) (numberIn m b s e p i)))
+  pub bad : ¬ (Accepts (entry m e .id) (entry m e .codes) (numberIn m b s e p i))
 
 abbrev pub planRules : Map → Call → Bank → List (Rule Refusal)
 planRules m (select s i a) b = []
@@ -196,5 +195,5 @@ readerRules count s position =
     let size : ℕ = byteAt s (position + 1) in
     gives (plain 9) (¬ (ReaderSized count s))
     ∷ gives (plain 1) ((position < length s) × ((left ≡ 1) ⊎ (left < size)))
-    ∷ gives (plain 2) ((position < length s) × (size < rowOf (byteAt s position) .least + maskBytes count))
+    ∷ gives (plain 2) ((position < length s) × BelowLeast (maskBytes count) (byteAt s position) size)
     ∷ []

@@ -4,20 +4,21 @@ use mathlib.Core.Logic.{_↔_}
 use mathlib.Core.Bool.{Bool, true, false, _||_, cond}
 use mathlib.Core.List.{List, [], _∷_, _++_}
 use Prim.Native.Nat.{ℕ, _+_, _-_, _≤_, _<_}
-use lib.IntN.{pos, negsuc}
+use lib.IntN.{ℤ, pos, negsuc}
 use lib.ListN.{length, getD, take, drop}
 use lib.Dec.{T, eqb}
 use Rattle.rules.specs.Words.{Refusal, plain, atEntry, Entry, failed, State, accepted, rejected, Call, read, Answer, refused, placedAt, notPlaced, ownedBy, gap, notOwned, noMore, notTaken}
 use Rattle.rules.specs.Numbers.{cut}
 use Rattle.rules.specs.Descriptor.{maskBytes, hasApp, byteAt, entryAt, decodeAt}
 use Rattle.rules.specs.Load.{start, Map, loadOf, rwEntries, roEntries, total, mapOf}
-use Rattle.rules.specs.Place.{nothing, entry, widthOf, isRW, lengthOf, holds, fieldByte, fieldBit, covers}
+use Rattle.rules.specs.Place.{nothing, entry, partsOf, widthOf, signedOf, isRW, lengthOf, holds, fieldByte, fieldBit, covers}
 use Rattle.rules.specs.Accept.{accepts, toBits, fromBits, weightOf}
 use Rattle.rules.specs.Layout.{bankSize, HasBytes, setStart}
 use Rattle.rules.specs.Bank.{Bank, numberIn, appSelIn, bankStep, freshStep, runBank}
 use Rattle.rules.specs.Table.{Table, freshTable, runTable}
 use Rattle.rules.specs.Beside.{placeOf, ownerCall, entryAnswer, entryBytes, weightCall}
 use Rattle.rules.specs.Reader.{takeOf}
+use Rattle.rules.specs.Columns.{Accepts, Shaped, TwosComplement, ExtrasRead}
 use Rattle.rules.specs.Conditions.{gives, First, entryRules, Way, PastMedia, Lane, planRules, callRules, stringRules, bankRules, ReaderSized, readerRules}
 
 -- DEMAND 1: "A refused call gives the number that 01's order picks, changes no byte, and does its own checking."
@@ -139,6 +140,16 @@ pub record OwnerAndPlace (count : ℕ) (rw ro : List ℕ) : Type 0 where
   pub offsets : (e : ℕ) → e < length (mapOf count rw ro .entries) → entry (mapOf count rw ro) e .offset ≡ total (take e (mapOf count rw ro .entries))
   -- "hands back that entry's own bytes"
   pub own-bytes : (e : ℕ) → e < length (mapOf count rw ro .entries) → OwnBytes count rw ro e
+  -- "Every rule about an ID is read from this table": the accepted values of an entry, by its ID and its code mask; its parts and bits a lane
+  pub accepted-values : (e : ℕ) (v : ℤ)
+      → T (accepts (entry (mapOf count rw ro) e) v) ↔ Accepts (entry (mapOf count rw ro) e .id) (entry (mapOf count rw ro) e .codes) v
+  pub shapes : (e : ℕ)
+      → Shaped (entry (mapOf count rw ro) e .id) (partsOf (entry (mapOf count rw ro) e)) (widthOf (entry (mapOf count rw ro) e))
+  -- "A field of 11h or 12h holds a two's complement number, any other an unsigned one."
+  pub signs : (e : ℕ) → (signedOf (entry (mapOf count rw ro) e) ≡ true) ↔ TwosComplement (entry (mapOf count rw ro) e .id)
+  -- "then the extras named in the table"
+  pub rw-extras : (n : ℕ) → n < length (rwEntries count rw) → ExtrasRead (maskBytes count) rw (getD (rwEntries count rw) n nothing)
+  pub ro-extras : (n : ℕ) → n < length (roEntries count rw ro) → ExtrasRead (maskBytes count) ro (getD (roEntries count rw ro) n nothing)
 
 abbrev pub Demand2 : Type 0
 Demand2 = (count : ℕ) (rw ro : List ℕ) → Accepted count rw ro → OwnerAndPlace count rw ro

@@ -13,5 +13,6 @@ pub mod Table
 pub mod Beside
 pub mod Reader
 pub mod MapProgram
+pub mod Columns
 pub mod Conditions
 pub mod Demands

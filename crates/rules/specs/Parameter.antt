@@ -22,7 +22,10 @@ infix 70 _to_
 abbrev pub _to_ : ℕ → ℕ → Range
 a to b = record { low = pos a; high = pos b }
 
--- S8: −128 to 127 ("−128 holds")
+-- U8, and S8: −128 to 127 ("−128 holds")
+abbrev pub u8 : Range
+u8 = 0 to 255
+
 abbrev pub s8 : Range
 s8 = record { low = negsuc 127; high = pos 127 }
 
@@ -72,8 +75,8 @@ rows =
     ∷ space RW
     ∷ space RW
     -- 0Fh HostChannelLossRx (5.17), 10h HostChannelLossTx (5.18)
-    ∷ row RW 1 8 8 4 none false (0 to 255 ∷ [])
-    ∷ row RW 1 8 8 4 none false (0 to 255 ∷ [])
+    ∷ row RW 1 8 8 4 none false (u8 ∷ [])
+    ∷ row RW 1 8 8 4 none false (u8 ∷ [])
     -- 11h NonLinearCompensationTx (5.19); part 0 is upper eye, part 1 lower eye
     ∷ row RO 2 8 16 4 none true (s8 ∷ [])
     -- 12h InputEqPrePostCursorCoeffTx (5.20)
