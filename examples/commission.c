@@ -8,7 +8,7 @@
 #include "vcs.h"
 
 /* Every call is given the count of applications and both strings; a call on a bank, then the bank. */
-static uint8_t rw[121], ro[121], bank[784]; /* A string of 121 bytes is refused, so none is cut. */
+static uint8_t rw[121], ro[121], bank[VCS_BANK_SIZE]; /* A string of 121 bytes is refused, so none is cut. */
 static size_t count, rw_length, ro_length;
 #define MODULE count, rw, rw_length, ro, ro_length
 #define BANK bank, sizeof bank

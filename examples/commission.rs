@@ -25,7 +25,7 @@ fn main() -> Result<(), Box<dyn Error>> {
     let [_, count, rw, ro] = &words[..] else { return Err("usage: commission COUNT RW-FILE RO-FILE".into()) };
 
     // Every call is given the count of applications and both strings; a call on a bank, then the bank.
-    let (count, rw, ro, mut bank) = (count.parse()?, fs::read(rw)?, fs::read(ro)?, [0; 784]);
+    let (count, rw, ro, mut bank) = (count.parse()?, fs::read(rw)?, fs::read(ro)?, [0; vcs::BANK_SIZE]);
 
     // Fresh clears the bank and answers as the load does.
     let map = vcs::fresh(count, &rw, &ro, &mut bank);

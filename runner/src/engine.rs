@@ -5,6 +5,11 @@ mod vcs;
 
 pub use vcs::{Answer as Answered, Call as FlatCall, *};
 
+/// The AppSels of both staged sets, in a bank that has them.
+pub fn app_sels(bank: &mut [u8]) -> &mut [u8] {
+    &mut bank[app_sel_at(0, 1)..=app_sel_at(1, 8)]
+}
+
 impl Loaded {
     /// The entries of an accepted map, or those before the entry that refused it.
     pub fn entries(&self) -> usize {

@@ -6,7 +6,7 @@ use second::Table;
 
 use super::{load, reason};
 use crate::case::{Case, Hex};
-use crate::engine::{self, Answered, FlatCall, Loaded};
+use crate::engine::{self, app_sel_at, app_sels, set_start, Answered, FlatCall, Loaded, BANK_SIZE};
 use crate::random::Random;
 use crate::report::{Answer, Report};
 use crate::tally::Row;
@@ -28,9 +28,6 @@ pub static END_BANK: Row = Row { name: "end: bank", numbers: &[0] };
 pub static END_READ: Row = Row { name: "end: read", numbers: &[0, 10, 11] };
 pub static END_APPLY: Row = Row { name: "end: apply", numbers: &[0, 13, 14] };
 
-/// The least length of a bank that is accepted.
-const LEAST: usize = 784;
-
 /// Bytes behind a lent bank, which no call may reach.
 const BEHIND: usize = 16;
 
@@ -46,17 +43,20 @@ impl Bank {
     /// Most often of the least length, in content clear, all ones or foreign.
     pub fn new(random: &Random) -> Bank {
         let length = match random.below(16) {
-            0 => random.pick(&[0, 0, 1, 512, 768, LEAST - 1, LEAST - 1, random.below(LEAST)]),
-            1 => LEAST + 1,
-            2 => random.pick(&[800, 1024, 1 << 16]),
-            _ => LEAST,
+            0 => {
+                let [active, apps] = [set_start(2), app_sel_at(0, 1)];
+                random.pick(&[0, 0, 1, active, apps, BANK_SIZE - 1, BANK_SIZE - 1, random.below(BANK_SIZE)])
+            }
+            1 => BANK_SIZE + 1,
+            2 => random.pick(&[BANK_SIZE + 16, BANK_SIZE + 240, 1 << 16]),
+            _ => BANK_SIZE,
         };
         let mut buffer = random.bytes(length + BEHIND);
         match random.below(4) {
             0 => buffer[..length].fill(0),
             1 => buffer[..length].fill(0xFF),
             // AppSels about the count
-            2 if length >= LEAST => buffer[768..LEAST].fill_with(|| random.below(20) as u8),
+            2 if length >= BANK_SIZE => app_sels(&mut buffer).fill_with(|| random.below(20) as u8),
             _ => {}
         }
         Bank { buffer, length, table: None }
@@ -64,7 +64,7 @@ impl Bank {
 
     /// Of the least length, all ones.
     pub fn ones() -> Bank {
-        Bank { buffer: vec![0xFF; LEAST + BEHIND], length: LEAST, table: None }
+        Bank { buffer: vec![0xFF; BANK_SIZE + BEHIND], length: BANK_SIZE, table: None }
     }
 
     pub fn lent(&self) -> &[u8] {
@@ -72,7 +72,7 @@ impl Bank {
     }
 
     pub fn accepted(&self) -> bool {
-        self.length >= LEAST
+        self.length >= BANK_SIZE
     }
 }
 
@@ -283,7 +283,7 @@ pub fn compare_end(report: &mut Report, case: &Case, bank: &Bank, entries: &[usi
 
 /// Compares every byte of a bank with the bank that shows the table.
 fn compare_bytes(report: &mut Report, case: &Case, lent: &[u8], table: &Table) {
-    let bank = |buffer| After { said: Said::Answered(Answered::default()), before: &[0; LEAST], buffer };
+    let bank = |buffer| After { said: Said::Answered(Answered::default()), before: &[0; BANK_SIZE], buffer };
     let shown = format_args!("{case} end of a list");
-    report.compare(&END_BANK, &shown, &bank(&lent[..LEAST]), &[("table", bank(&table.bank()))]);
+    report.compare(&END_BANK, &shown, &bank(&lent[..BANK_SIZE]), &[("table", bank(&table.bank()))]);
 }

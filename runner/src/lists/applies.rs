@@ -44,7 +44,7 @@ impl Look<'_> {
     }
 
     fn app(&self, lane: usize) -> usize {
-        self.agreed.before[768 + 8 * self.set + lane - 1].into()
+        self.agreed.before[engine::app_sel_at(self.set, lane)].into()
     }
 
     /// An application mask has an app that is above the count.
