@@ -10,6 +10,22 @@ pub fn app_sels(bank: &mut [u8]) -> &mut [u8] {
     &mut bank[app_sel_at(0, 1)..=app_sel_at(1, 8)]
 }
 
+/// Checks that sets and AppSels stand in a bank where include/vcs.rs says: an 02h byte by byte read, an AppSel by select.
+pub fn check_layout() {
+    let rw = [0x02, 5, 0x01, 1, 0];
+    for set in 0..3 {
+        let mut bank = [0; BANK_SIZE];
+        bank[set_start(set)] = 0xA5;
+        assert_eq!(byte_read(1, &rw, &[], &bank, set, 0).number, 0xA5, "the start of set {set}");
+    }
+    for (set, lane) in (0..2).flat_map(|set| (1..=8).map(move |lane| (set, lane))) {
+        let mut bank = [0; BANK_SIZE];
+        select(1, &rw, &[], &mut bank, set, lane, 1);
+        let stored = bank.iter().position(|&byte| byte == 1);
+        assert_eq!(stored, Some(app_sel_at(set, lane)), "the AppSel of set {set}, lane {lane}");
+    }
+}
+
 impl Loaded {
     /// The entries of an accepted map, or those before the entry that refused it.
     pub fn entries(&self) -> usize {

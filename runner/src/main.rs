@@ -48,6 +48,7 @@ fn main() -> ExitCode {
 }
 
 fn compare() -> bool {
+    engine::check_layout();
     let mut calls = calls::CALLS.to_vec();
     calls.extend(lists::rows());
     if program::exists() {
