@@ -16,9 +16,10 @@ static size_t count, rw_length, ro_length;
 /* Ends the program if a call was refused. Refusals 1 to 7 name an entry, 13 and 14 a lane, the others nothing. */
 static void accepted(const char *call, vcs_answer answer)
 {
-    if (answer.refusal != 0) {
-        printf("%s: refused with %zu", call, answer.refusal);
-        printf(answer.refusal <= 7 ? ", entry %zu\n" : answer.refusal >= 13 ? ", lane %zu\n" : "\n", answer.at);
+    size_t number = answer.refusal;
+    if (number != 0) {
+        printf("%s: refused with %zu", call, number);
+        printf(number <= 7 ? ", entry %zu\n" : number == 13 || number == 14 ? ", lane %zu\n" : "\n", answer.at);
         exit(1);
     }
 }

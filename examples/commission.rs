@@ -14,7 +14,7 @@ fn accepted(call: &str, vcs::Answer { refusal, at, .. }: vcs::Answer) {
     match refusal {
         0 => return,
         1..=7 => println!("{call}: refused with {refusal}, entry {at}"),
-        13.. => println!("{call}: refused with {refusal}, lane {at}"),
+        13 | 14 => println!("{call}: refused with {refusal}, lane {at}"),
         _ => println!("{call}: refused with {refusal}"),
     }
     process::exit(1)

@@ -31,7 +31,19 @@ static const char *const NAMES[EXPORTS] = {
     "owner", "fresh", "weight", "take",
 };
 
-static size_t seed = 1, calls = 1000000, made, accepted[EXPORTS], refused[EXPORTS], refusals[15];
+/* What a refusal names, by its number, and whether count, strings and bank alone decide it; 0 stands for an accepted call. */
+enum { NOTHING, AN_ENTRY, A_LANE };
+static const struct {
+    int names;
+    int by_lent;
+} REFUSALS[] = {
+    [1] = {AN_ENTRY, 1}, [2] = {AN_ENTRY, 1}, [3] = {AN_ENTRY, 1}, [4] = {AN_ENTRY, 1}, [5] = {AN_ENTRY, 1},
+    [6] = {AN_ENTRY, 1}, [7] = {AN_ENTRY, 1}, [8] = {NOTHING, 1},  [9] = {NOTHING, 1},  [10] = {NOTHING, 0},
+    [11] = {NOTHING, 0}, [12] = {NOTHING, 0}, [13] = {A_LANE, 0},  [14] = {A_LANE, 0},
+};
+enum { NUMBERS = sizeof REFUSALS / sizeof REFUSALS[0] };
+
+static size_t seed = 1, calls = 1000000, made, accepted[EXPORTS], refused[EXPORTS], refusals[NUMBERS];
 
 /* ---- Random numbers: splitmix64 ---- */
 
@@ -339,11 +351,11 @@ static int judge(size_t export, const void *answer, size_t size)
     memcpy(numbers, answer, size);
     size_t refusal = numbers[0], at = numbers[1];
     size_t expected = refused_by_lent(export < LOAD || export == FRESH || export == WEIGHT);
-    if (expected != 0 ? refusal != expected : refusal > 14 || (refusal != 0 && refusal < 10)) {
+    if (refusal >= NUMBERS || (expected != 0 ? refusal != expected : REFUSALS[refusal].by_lent)) {
         fail(NAMES[export], "another refusal");
     }
-    int named = refusal == 0 || (refusal >= 8 && refusal <= 12) ? at == 0 : refusal <= 7 ? at == map.at : at >= 1 && at <= 8;
-    if (!named) {
+    int names = REFUSALS[refusal].names;
+    if (names == NOTHING ? at != 0 : names == AN_ENTRY ? at != map.at : at < 1 || at > 8) {
         fail(NAMES[export], "another entry or lane");
     }
     for (int i = 2; i < 6 && refusal != 0; i++) {
@@ -452,7 +464,7 @@ int main(int words, char **word)
             fail(NAMES[i], "never accepted, or never refused");
         }
     }
-    for (size_t i = 1; i < 15; i++) {
+    for (size_t i = 1; i < NUMBERS; i++) {
         if (refusals[i] == 0) {
             printf("hardening: refusal %zu has not occurred\n", i);
             exit(1);

@@ -10,7 +10,7 @@ use crate::any_map;
 use crate::calls::bank::{APPLY, BYTE_READ, BYTE_WRITE, FRESH, PERFORM, PUBLISH, READ, SELECT, WEIGHT, WRITE};
 use crate::calls::{entry, load, owner, place, take};
 use crate::case::Case;
-use crate::engine::{self, app_sels, FlatCall, Located, BANK_SIZE};
+use crate::engine::{self, app_sels, FlatCall, BANK_SIZE};
 use crate::fixed::hex;
 use crate::peer;
 use crate::random::Random;
@@ -201,12 +201,6 @@ fn varied_args(random: &Random, case: &Case) -> Args {
     Args { call, bit: random.about(8), position: random.about(case.rw.len() + 1) }
 }
 
-impl Answer for Located {
-    fn refusal(&self) -> usize {
-        self.refusal
-    }
-}
-
 /// A call's times: for each map, engine and peer.
 struct Line {
     name: &'static str,
@@ -271,7 +265,7 @@ impl Bench {
         }
         let seen = self.varied.iter().map(|input| agreed(&input.map, &input.bank, &input.args));
         let seen: BTreeSet<usize> = seen.collect();
-        assert_eq!(seen, row.numbers.iter().copied().collect(), "{name}: the numbers that varied inputs reach");
+        assert_eq!(seen, row.numbers.iter().collect(), "{name}: the numbers that varied inputs reach");
     }
 
     fn print(&self) {

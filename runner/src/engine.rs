@@ -5,6 +5,9 @@ mod vcs;
 
 pub use vcs::{Answer as Answered, Call as FlatCall, *};
 
+use crate::refusals::{named, Named};
+use crate::report::Answer;
+
 /// The AppSels of both staged sets, in a bank that has them.
 pub fn app_sels(bank: &mut [u8]) -> &mut [u8] {
     &mut bank[app_sel_at(0, 1)..=app_sel_at(1, 8)]
@@ -41,7 +44,37 @@ macro_rules! refused {
                 $answer { refusal, at, ..$answer::default() }
             }
         }
+
+        impl From<second::Refusal> for $answer {
+            fn from(refusal: second::Refusal) -> $answer {
+                let (number, at) = reason(refusal);
+                $answer::refused(number, at)
+            }
+        }
     )*};
 }
 
 refused! { Loaded Located Placed Owned Answered }
+
+/// The number of the second program's refusal and the entry or lane that it names, as the engine answers them.
+fn reason(refusal: second::Refusal) -> (usize, usize) {
+    let number = refusal.number as usize;
+    match (named(number), refusal.entry, refusal.lane) {
+        (Named::Nothing, None, None) => (number, 0),
+        (Named::Entry, Some(entry), None) => (number, entry),
+        (Named::Lane, None, Some(lane)) => (number, lane),
+        _ => panic!("the second program names something else: {refusal:?}"),
+    }
+}
+
+macro_rules! answers {
+    ($($answer:ident)*) => {$(
+        impl Answer for $answer {
+            fn refusal(&self) -> usize {
+                self.refusal
+            }
+        }
+    )*};
+}
+
+answers! { Loaded Located Placed Owned Answered Taken }

@@ -11,6 +11,7 @@ mod peer;
 mod program;
 mod random;
 mod reached;
+mod refusals;
 mod report;
 mod shape;
 mod strings;
