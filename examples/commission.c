@@ -44,7 +44,7 @@ int main(int words, char **word)
     /* Entry 4 is the host's channel loss for Rx (0Fh): where does its field of lane 3 stand in a set? */
     vcs_placed placed = vcs_place(MODULE, 0, 4, 0, 3);
     accepted("place", (vcs_answer){placed.refusal, placed.at, 0});
-    printf("entry 4, part 0, lane 3: byte %zu, bit %zu\n", placed.byte, placed.bit);
+    printf("entry 4, part 0, lane 3: offset %zu, bit %zu\n", placed.offset, placed.bit);
 
     /* Staged set 0: application 1 in lanes 1 to 4, 2 in the others; 12 dB for Rx, 9 dB for Tx (10h, entry 5). */
     for (size_t lane = 1; lane <= 8; lane++) {

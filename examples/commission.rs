@@ -36,7 +36,7 @@ fn main() -> Result<(), Box<dyn Error>> {
     // Entry 4 is the host's channel loss for Rx (0Fh): where does its field of lane 3 stand in a set?
     let placed = vcs::place(count, &rw, &ro, 0, 4, 0, 3);
     accepted("place", vcs::Answer { refusal: placed.refusal, at: placed.at, number: 0 });
-    println!("entry 4, part 0, lane 3: byte {}, bit {}", placed.byte, placed.bit);
+    println!("entry 4, part 0, lane 3: offset {}, bit {}", placed.offset, placed.bit);
 
     // Staged set 0: application 1 in lanes 1 to 4, 2 in the others; 12 dB for Rx, 9 dB for Tx (10h, entry 5).
     for lane in 1..=8 {

@@ -43,11 +43,11 @@ typedef struct {
     size_t offset;
 } vcs_located;
 
-/* Where a field stands in a set: its byte, and its lowest bit there, 0 to 7. */
+/* Where a field stands in a set: the offset of its byte, and its lowest bit there, 0 to 7. */
 typedef struct {
     size_t refusal;
     size_t at;
-    size_t byte;
+    size_t offset;
     size_t bit;
 } vcs_placed;
 

@@ -55,13 +55,13 @@ pub struct Located {
     pub offset: usize,
 }
 
-/// Where a field stands in a set: its byte, and its lowest bit there, 0 to 7.
+/// Where a field stands in a set: the offset of its byte, and its lowest bit there, 0 to 7.
 #[repr(C)]
 #[derive(Clone, Copy, Debug, Default, PartialEq, Eq)]
 pub struct Placed {
     pub refusal: usize,
     pub at: usize,
-    pub byte: usize,
+    pub offset: usize,
     pub bit: usize,
 }
 

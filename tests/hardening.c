@@ -325,11 +325,11 @@ static void changes(const vcs_call *c)
     if (c->kind == SELECT) {
         may_change(VCS_APP_SEL_AT(c->set, c->lane), 1);
     } else if (c->kind == WRITE) {
-        may_change(VCS_SET_START(c->set) + vcs_place(LENT, c->set, c->entry, c->part, c->lane).byte, 1);
+        may_change(VCS_SET_START(c->set) + vcs_place(LENT, c->set, c->entry, c->part, c->lane).offset, 1);
     } else if (c->kind == BYTE_WRITE) {
         may_change(VCS_SET_START(c->set) + c->offset, 1);
     } else if (c->kind == PUBLISH) {
-        may_change(VCS_SET_START(2) + vcs_place(LENT, 2, c->entry, c->part, c->lane).byte, 1);
+        may_change(VCS_SET_START(2) + vcs_place(LENT, 2, c->entry, c->part, c->lane).offset, 1);
     } else if (c->kind == APPLY) {
         may_change(VCS_SET_START(2), map.staged_length);
     }

@@ -33,7 +33,7 @@ AT(vcs_located, start, 3);
 AT(vcs_located, length, 4);
 AT(vcs_located, offset, 5);
 ANSWER(vcs_placed, 4);
-AT(vcs_placed, byte, 2);
+AT(vcs_placed, offset, 2);
 AT(vcs_placed, bit, 3);
 ANSWER(vcs_owned, 6);
 AT(vcs_owned, gap, 2);

@@ -113,7 +113,7 @@ impl Subject {
         let map = Flat { count: 4, strings: [hex(named.rw), hex(named.ro)] };
         let case = map.case();
         let args = |set, (entry, value)| {
-            let offset = engine::place(case.count, case.rw, case.ro, set, entry, 0, LANE).byte;
+            let offset = engine::place(case.count, case.rw, case.ro, set, entry, 0, LANE).offset;
             let position = engine::entry(case.count, case.rw, case.ro, entry).start;
             let call =
                 FlatCall { kind: 1, set, entry, part: 0, lane: LANE, offset, app: APP, value, byte: 0x21, lanes: 0xFF };

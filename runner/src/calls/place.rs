@@ -1,4 +1,4 @@
-//! The place call: byte and lowest bit of each field.
+//! The place call: offset and lowest bit of each field.
 
 use crate::case::Case;
 use crate::engine::{self, Loaded, Placed};
@@ -11,7 +11,7 @@ pub static CALL: Row = Row::new("place", refusals::PLACE);
 
 fn of_second(case: &Case, set: usize, entry: usize, part: usize, lane: usize) -> Placed {
     match second::place(case.count, case.rw, case.ro, set, entry, part, lane) {
-        Ok((byte, bit)) => Placed { refusal: 0, at: 0, byte, bit },
+        Ok((offset, bit)) => Placed { refusal: 0, at: 0, offset, bit },
         Err(refusal) => refusal.into(),
     }
 }

@@ -64,7 +64,7 @@ impl Entry<'_> {
         part < self.row.parts.into() && lane.wrapping_sub(1) < 8
     }
 
-    /// Byte of a set and lowest bit there.
+    /// Offset in a set and lowest bit there.
     #[inline(always)]
     fn place(&self, part: usize, lane: usize) -> (usize, usize) {
         let first = (lane - 1) << self.row.shift;
@@ -79,8 +79,8 @@ impl Entry<'_> {
 
     #[inline(always)]
     fn number_at(&self, bank: &[u8], set: usize, part: usize, lane: usize) -> i64 {
-        let (byte, bit) = self.place(part, lane);
-        let bits = bank.get(set_start(set) + byte).map_or(0, |at| at >> bit & self.ones());
+        let (offset, bit) = self.place(part, lane);
+        let bits = bank.get(set_start(set) + offset).map_or(0, |at| at >> bit & self.ones());
         if self.row.traits & SIGNED != 0 {
             i64::from(bits as i8)
         } else {
@@ -90,8 +90,8 @@ impl Entry<'_> {
 
     #[inline(always)]
     fn store(&self, bank: &mut [u8], set: usize, part: usize, lane: usize, value: i64) {
-        let (byte, bit) = self.place(part, lane);
-        if let Some(at) = bank.get_mut(set_start(set) + byte) {
+        let (offset, bit) = self.place(part, lane);
+        if let Some(at) = bank.get_mut(set_start(set) + offset) {
             *at = *at & !(self.ones() << bit) | (value as u8) << bit;
         }
     }
@@ -130,8 +130,8 @@ calls! {
         let e = passed!(find_entry(count, rw, ro, NO_BANK, entry));
         refuse_if!(set > 2 || !e.has_field(part, lane), 10);
         refuse_if!(set < 2 && e.in_ro, 11);
-        let (byte, bit) = e.place(part, lane);
-        Placed { refusal: 0, at: 0, byte, bit }
+        let (offset, bit) = e.place(part, lane);
+        Placed { refusal: 0, at: 0, offset, bit }
     }
 
     fn owner(count: usize, rw: &[u8], ro: &[u8], set: usize, offset: usize, bit: usize) -> Owned {
