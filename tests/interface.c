@@ -133,6 +133,7 @@ static void same(const char *name, const void *answer, size_t size, const size_t
 
 /* The numbers of an answer: refusal, at, then the others; 0 where an answer has fewer than six. */
 #define NUMBERS(...) ((const size_t[6]){__VA_ARGS__})
+#define REFUSED(number, at) NUMBERS(number, at)
 
 /* Strings are lent from a copy, which must keep every byte. */
 static uint8_t copy[2][1024];
@@ -228,10 +229,9 @@ enum { SET_1 = VCS_SET_START(1), ACTIVE = VCS_SET_START(2) };
 /* A call with a bank of another length. */
 #define LENDING(length, call) (lent = (length), call, lent = VCS_BANK_SIZE)
 
-/* The answer that says yes, one with a number, and a refusal. */
+/* The answer that says yes, and one with a number. */
 #define YES NUMBERS(0)
 #define NUMBER(n) NUMBERS(0, 0, (size_t)(int64_t)(n))
-#define REFUSED(number, at) NUMBERS(number, at)
 
 static void fill(uint8_t byte)
 {
@@ -326,32 +326,30 @@ static void loads(void)
 {
     static const uint8_t zeros[1000];
     load("no string", (map){15, NONE, NONE}, NUMBERS(0, 0, 0, 0, 0, 0));
-    load("count 0", (map){0, NONE, NONE}, NUMBERS(9, 0, 0, 0, 0, 0));
-    load("count 16", (map){16, NONE, NONE}, NUMBERS(9, 0, 0, 0, 0, 0));
-    load("count 257", (map){257, NONE, NONE}, NUMBERS(9, 0, 0, 0, 0, 0));
-    load("count 2^32 + 4", (map){((size_t)1 << 32) + 4, NONE, NONE}, NUMBERS(9, 0, 0, 0, 0, 0));
-    load("the largest count", (map){SIZE_MAX, NONE, NONE}, NUMBERS(9, 0, 0, 0, 0, 0));
-    load("RW of 121 bytes", (map){4, zeros, 121, NONE}, NUMBERS(9, 0, 0, 0, 0, 0));
-    load("RO of 1000 bytes", (map){4, NONE, zeros, 1000}, NUMBERS(9, 0, 0, 0, 0, 0));
-    load("RW of 120 bytes, Length 0", (map){4, zeros, 120, NONE}, NUMBERS(2, 0, 0, 0, 0, 0));
-    load("one byte left", (map){4, BYTES(0x00, 0x04, 0x00, 0x01, 0x02), NONE}, NUMBERS(1, 1, 0, 0, 0, 0));
-    load("Length one over", (map){4, BYTES(0x02, 0x06, 0x01, 0x01, 0x00), NONE}, NUMBERS(1, 0, 0, 0, 0, 0));
-    load("P8", (map){4, BYTES(0x02, 0x00), NONE}, NUMBERS(2, 0, 0, 0, 0, 0));
+    load("count 0", (map){0, NONE, NONE}, REFUSED(9, 0));
+    load("count 16", (map){16, NONE, NONE}, REFUSED(9, 0));
+    load("count 257", (map){257, NONE, NONE}, REFUSED(9, 0));
+    load("count 2^32 + 4", (map){((size_t)1 << 32) + 4, NONE, NONE}, REFUSED(9, 0));
+    load("the largest count", (map){SIZE_MAX, NONE, NONE}, REFUSED(9, 0));
+    load("RW of 121 bytes", (map){4, zeros, 121, NONE}, REFUSED(9, 0));
+    load("RO of 1000 bytes", (map){4, NONE, zeros, 1000}, REFUSED(9, 0));
+    load("RW of 120 bytes, Length 0", (map){4, zeros, 120, NONE}, REFUSED(2, 0));
+    load("one byte left", (map){4, BYTES(0x00, 0x04, 0x00, 0x01, 0x02), NONE}, REFUSED(1, 1));
+    load("Length one over", (map){4, BYTES(0x02, 0x06, 0x01, 0x01, 0x00), NONE}, REFUSED(1, 0));
+    load("P8", (map){4, BYTES(0x02, 0x00), NONE}, REFUSED(2, 0));
     load("an RW parameter in RO", (map){4, BYTES(0x00, 0x04, 0x00, 0x01), BYTES(0x02, 0x05, 0x01, 0x01, 0x00)},
-         NUMBERS(3, 1, 0, 0, 0, 0));
-    load("P9, MemoryLength 3", (map){4, BYTES(0x04, 0x07, 0x01, 0x03, 0x00, 0x00, 0x04), NONE},
-         NUMBERS(4, 0, 0, 0, 0, 0));
+         REFUSED(3, 1));
+    load("P9, MemoryLength 3", (map){4, BYTES(0x04, 0x07, 0x01, 0x03, 0x00, 0x00, 0x04), NONE}, REFUSED(4, 0));
     load("P9, MemoryLength 5", (map){4, BYTES(0x04, 0x07, 0x01, 0x05, 0x00, 0x00, 0x04), NONE},
          NUMBERS(0, 0, 1, 0, 5, 5));
-    load("step 4", (map){4, NONE, BYTES(0x12, 0x07, 0x01, 0x08, 0x00, 0xFF, 0x04)}, NUMBERS(5, 0, 0, 0, 0, 0));
+    load("step 4", (map){4, NONE, BYTES(0x12, 0x07, 0x01, 0x08, 0x00, 0xFF, 0x04)}, REFUSED(5, 0));
     load("step 3", (map){4, NONE, BYTES(0x12, 0x07, 0x01, 0x08, 0x00, 0xFF, 0x03)}, NUMBERS(0, 0, 0, 1, 0, 8));
     load("host side after media side",
          (map){4, BYTES(0x0F, 0x05, 0x01, 0x08, 0x01, 0x02, 0x05, 0x01, 0x01, 0x00), NONE},
-         NUMBERS(6, 1, 0, 0, 0, 0));
+         REFUSED(6, 1));
     load("P12, 255 and 1", (map){4, BYTES(0x00, 0x04, 0x00, 0xFF), BYTES(0x00, 0x04, 0x00, 0x01)},
          NUMBERS(0, 0, 1, 1, 255, 256));
-    load("P12, 255 and 2", (map){4, BYTES(0x00, 0x04, 0x00, 0xFF), BYTES(0x00, 0x04, 0x00, 0x02)},
-         NUMBERS(7, 1, 0, 0, 0, 0));
+    load("P12, 255 and 2", (map){4, BYTES(0x00, 0x04, 0x00, 0xFF), BYTES(0x00, 0x04, 0x00, 0x02)}, REFUSED(7, 1));
     load("two mask bytes", (map){9, BYTES(0x02, 0x06, 0x00, 0x01, 0x03, 0x00), NONE}, NUMBERS(0, 0, 1, 0, 3, 3));
 }
 
@@ -370,16 +368,16 @@ static void entries(void)
     entry("entry 2", m, 2, NUMBERS(0, 0, 0, 10, 5, 3));
     entry("entry 3, RO", m, 3, NUMBERS(0, 0, 1, 0, 5, 4));
     entry("entry 4, RO", m, 4, NUMBERS(0, 0, 1, 5, 8, 20));
-    entry("entry 5", m, 5, NUMBERS(10, 0, 0, 0, 0, 0));
-    entry("entry 2^32", m, (size_t)1 << 32, NUMBERS(10, 0, 0, 0, 0, 0));
-    entry("the largest entry", m, SIZE_MAX, NUMBERS(10, 0, 0, 0, 0, 0));
+    entry("entry 5", m, 5, REFUSED(10, 0));
+    entry("entry 2^32", m, (size_t)1 << 32, REFUSED(10, 0));
+    entry("the largest entry", m, SIZE_MAX, REFUSED(10, 0));
     m.count = 0;
-    entry("9 before 10", m, SIZE_MAX, NUMBERS(9, 0, 0, 0, 0, 0));
+    entry("9 before 10", m, SIZE_MAX, REFUSED(9, 0));
     m.count = 4;
     m.ro_length = 6;
-    entry("a bad RO string refuses an RW entry", m, 0, NUMBERS(1, 4, 0, 0, 0, 0));
-    entry("1 before 10", m, 99, NUMBERS(1, 4, 0, 0, 0, 0));
-    entry("no string", (map){1, NONE, NONE}, 0, NUMBERS(10, 0, 0, 0, 0, 0));
+    entry("a bad RO string refuses an RW entry", m, 0, REFUSED(1, 4));
+    entry("1 before 10", m, 99, REFUSED(1, 4));
+    entry("no string", (map){1, NONE, NONE}, 0, REFUSED(10, 0));
 }
 
 static void places(void)
@@ -391,26 +389,26 @@ static void places(void)
     place("11h, upper eye, lane 8", m, 2, 3, 0, 8, NUMBERS(0, 0, 11, 0));
     place("11h, lower eye, lane 1", m, 2, 3, 1, 1, NUMBERS(0, 0, 12, 0));
     place("12h, lane 8", m, 2, 4, 0, 8, NUMBERS(0, 0, 27, 0));
-    place("11h in set 0", m, 0, 3, 0, 1, NUMBERS(11, 0, 0, 0));
-    place("12h in set 1", m, 1, 4, 0, 8, NUMBERS(11, 0, 0, 0));
-    place("10 before 11: part 2", m, 0, 3, 2, 1, NUMBERS(10, 0, 0, 0));
-    place("10 before 11: lane 9", m, 1, 4, 0, 9, NUMBERS(10, 0, 0, 0));
-    place("lane 0", m, 0, 0, 0, 0, NUMBERS(10, 0, 0, 0));
-    place("lane 9", m, 2, 0, 0, 9, NUMBERS(10, 0, 0, 0));
-    place("lane 2^61 + 1", m, 2, 4, 0, ((size_t)1 << 61) + 1, NUMBERS(10, 0, 0, 0));
-    place("part 1 of 02h", m, 0, 0, 1, 1, NUMBERS(10, 0, 0, 0));
-    place("part 2 of 11h", m, 2, 3, 2, 1, NUMBERS(10, 0, 0, 0));
-    place("00h has no field", m, 2, 1, 0, 1, NUMBERS(10, 0, 0, 0));
-    place("entry 5", m, 2, 5, 0, 1, NUMBERS(10, 0, 0, 0));
-    place("set 3", m, 3, 0, 0, 1, NUMBERS(10, 0, 0, 0));
-    place("set 2^32", m, (size_t)1 << 32, 0, 0, 1, NUMBERS(10, 0, 0, 0));
-    place("the largest numbers", m, SIZE_MAX, SIZE_MAX, SIZE_MAX, SIZE_MAX, NUMBERS(10, 0, 0, 0));
+    place("11h in set 0", m, 0, 3, 0, 1, REFUSED(11, 0));
+    place("12h in set 1", m, 1, 4, 0, 8, REFUSED(11, 0));
+    place("10 before 11: part 2", m, 0, 3, 2, 1, REFUSED(10, 0));
+    place("10 before 11: lane 9", m, 1, 4, 0, 9, REFUSED(10, 0));
+    place("lane 0", m, 0, 0, 0, 0, REFUSED(10, 0));
+    place("lane 9", m, 2, 0, 0, 9, REFUSED(10, 0));
+    place("lane 2^61 + 1", m, 2, 4, 0, ((size_t)1 << 61) + 1, REFUSED(10, 0));
+    place("part 1 of 02h", m, 0, 0, 1, 1, REFUSED(10, 0));
+    place("part 2 of 11h", m, 2, 3, 2, 1, REFUSED(10, 0));
+    place("00h has no field", m, 2, 1, 0, 1, REFUSED(10, 0));
+    place("entry 5", m, 2, 5, 0, 1, REFUSED(10, 0));
+    place("set 3", m, 3, 0, 0, 1, REFUSED(10, 0));
+    place("set 2^32", m, (size_t)1 << 32, 0, 0, 1, REFUSED(10, 0));
+    place("the largest numbers", m, SIZE_MAX, SIZE_MAX, SIZE_MAX, SIZE_MAX, REFUSED(10, 0));
     m.count = 16;
-    place("9 before 10", m, 3, 5, 0, 0, NUMBERS(9, 0, 0, 0));
+    place("9 before 10", m, 3, 5, 0, 0, REFUSED(9, 0));
     m.count = 4;
     m.ro_length = 6;
-    place("a bad RO string refuses an RW field", m, 0, 0, 0, 1, NUMBERS(1, 4, 0, 0));
-    place("1 before 11", m, 0, 3, 0, 1, NUMBERS(1, 4, 0, 0));
+    place("a bad RO string refuses an RW field", m, 0, 0, 0, 1, REFUSED(1, 4));
+    place("1 before 11", m, 0, 3, 0, 1, REFUSED(1, 4));
 }
 
 static void owners(void)
@@ -425,20 +423,20 @@ static void owners(void)
     owner("reserved, set 0", m, 0, 1, 0, NUMBERS(0, 0, 1, 0, 0, 0));
     owner("reserved, active", m, 2, 2, 7, NUMBERS(0, 0, 1, 0, 0, 0));
     owner("surplus of 12h", m, 2, 28, 0, NUMBERS(0, 0, 1, 0, 0, 0));
-    owner("the active length", m, 2, 29, 0, NUMBERS(10, 0, 0, 0, 0, 0));
-    owner("the staged length, set 0", m, 0, 4, 0, NUMBERS(10, 0, 0, 0, 0, 0));
-    owner("space of RO in set 1", m, 1, 20, 0, NUMBERS(10, 0, 0, 0, 0, 0));
-    owner("bit 8", m, 2, 0, 8, NUMBERS(10, 0, 0, 0, 0, 0));
-    owner("set 3", m, 3, 0, 0, NUMBERS(10, 0, 0, 0, 0, 0));
-    owner("offset 2^61", m, 2, (size_t)1 << 61, 0, NUMBERS(10, 0, 0, 0, 0, 0));
-    owner("the largest numbers", m, SIZE_MAX, SIZE_MAX, SIZE_MAX, NUMBERS(10, 0, 0, 0, 0, 0));
-    owner("no string", (map){1, NONE, NONE}, 2, 0, 0, NUMBERS(10, 0, 0, 0, 0, 0));
+    owner("the active length", m, 2, 29, 0, REFUSED(10, 0));
+    owner("the staged length, set 0", m, 0, 4, 0, REFUSED(10, 0));
+    owner("space of RO in set 1", m, 1, 20, 0, REFUSED(10, 0));
+    owner("bit 8", m, 2, 0, 8, REFUSED(10, 0));
+    owner("set 3", m, 3, 0, 0, REFUSED(10, 0));
+    owner("offset 2^61", m, 2, (size_t)1 << 61, 0, REFUSED(10, 0));
+    owner("the largest numbers", m, SIZE_MAX, SIZE_MAX, SIZE_MAX, REFUSED(10, 0));
+    owner("no string", (map){1, NONE, NONE}, 2, 0, 0, REFUSED(10, 0));
     m.count = 0;
-    owner("9 before 10", m, 2, 29, 8, NUMBERS(9, 0, 0, 0, 0, 0));
+    owner("9 before 10", m, 2, 29, 8, REFUSED(9, 0));
     m.count = 4;
     m.ro_length = 6;
-    owner("a bad RO string refuses an RW bit", m, 0, 0, 0, NUMBERS(1, 4, 0, 0, 0, 0));
-    owner("1 before 10", m, 3, 29, 8, NUMBERS(1, 4, 0, 0, 0, 0));
+    owner("a bad RO string refuses an RW bit", m, 0, 0, 0, REFUSED(1, 4));
+    owner("1 before 10", m, 3, 29, 8, REFUSED(1, 4));
 }
 
 /* 02h, 03h at offset 1, 04h at 3 with mask 1FFFh, 00h that reserves 2, 07h at 9 with mask 0FFFh. */
