@@ -8,7 +8,7 @@
 #include "vcs.h"
 
 /* Every call is given the count of applications and both strings; a call on a bank, then the bank. */
-static uint8_t rw[121], ro[121], bank[784]; /* A string of 121 bytes is refused, so none is cut. */
+static uint8_t rw[121], ro[121], bank[VCS_BANK_SIZE]; /* A string of 121 bytes is refused, so none is cut. */
 static size_t count, rw_length, ro_length;
 #define MODULE count, rw, rw_length, ro, ro_length
 #define BANK bank, sizeof bank
@@ -16,9 +16,10 @@ static size_t count, rw_length, ro_length;
 /* Ends the program if a call was refused. Refusals 1 to 7 name an entry, 13 and 14 a lane, the others nothing. */
 static void accepted(const char *call, vcs_answer answer)
 {
-    if (answer.refusal != 0) {
-        printf("%s: refused with %zu", call, answer.refusal);
-        printf(answer.refusal <= 7 ? ", entry %zu\n" : answer.refusal >= 13 ? ", lane %zu\n" : "\n", answer.at);
+    size_t number = answer.refusal;
+    if (number != 0) {
+        printf("%s: refused with %zu", call, number);
+        printf(number <= 7 ? ", entry %zu\n" : number == 13 || number == 14 ? ", lane %zu\n" : "\n", answer.at);
         exit(1);
     }
 }
@@ -43,7 +44,7 @@ int main(int words, char **word)
     /* Entry 4 is the host's channel loss for Rx (0Fh): where does its field of lane 3 stand in a set? */
     vcs_placed placed = vcs_place(MODULE, 0, 4, 0, 3);
     accepted("place", (vcs_answer){placed.refusal, placed.at, 0});
-    printf("entry 4, part 0, lane 3: byte %zu, bit %zu\n", placed.byte, placed.bit);
+    printf("entry 4, part 0, lane 3: offset %zu, bit %zu\n", placed.offset, placed.bit);
 
     /* Staged set 0: application 1 in lanes 1 to 4, 2 in the others; 12 dB for Rx, 9 dB for Tx (10h, entry 5). */
     for (size_t lane = 1; lane <= 8; lane++) {

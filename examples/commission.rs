@@ -14,7 +14,7 @@ fn accepted(call: &str, vcs::Answer { refusal, at, .. }: vcs::Answer) {
     match refusal {
         0 => return,
         1..=7 => println!("{call}: refused with {refusal}, entry {at}"),
-        13.. => println!("{call}: refused with {refusal}, lane {at}"),
+        13 | 14 => println!("{call}: refused with {refusal}, lane {at}"),
         _ => println!("{call}: refused with {refusal}"),
     }
     process::exit(1)
@@ -25,7 +25,7 @@ fn main() -> Result<(), Box<dyn Error>> {
     let [_, count, rw, ro] = &words[..] else { return Err("usage: commission COUNT RW-FILE RO-FILE".into()) };
 
     // Every call is given the count of applications and both strings; a call on a bank, then the bank.
-    let (count, rw, ro, mut bank) = (count.parse()?, fs::read(rw)?, fs::read(ro)?, [0; 784]);
+    let (count, rw, ro, mut bank) = (count.parse()?, fs::read(rw)?, fs::read(ro)?, [0; vcs::BANK_SIZE]);
 
     // Fresh clears the bank and answers as the load does.
     let map = vcs::fresh(count, &rw, &ro, &mut bank);
@@ -36,7 +36,7 @@ fn main() -> Result<(), Box<dyn Error>> {
     // Entry 4 is the host's channel loss for Rx (0Fh): where does its field of lane 3 stand in a set?
     let placed = vcs::place(count, &rw, &ro, 0, 4, 0, 3);
     accepted("place", vcs::Answer { refusal: placed.refusal, at: placed.at, number: 0 });
-    println!("entry 4, part 0, lane 3: byte {}, bit {}", placed.byte, placed.bit);
+    println!("entry 4, part 0, lane 3: offset {}, bit {}", placed.offset, placed.bit);
 
     // Staged set 0: application 1 in lanes 1 to 4, 2 in the others; 12 dB for Rx, 9 dB for Tx (10h, entry 5).
     for lane in 1..=8 {

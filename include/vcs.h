@@ -1,8 +1,8 @@
 /* The versatile control set engine: C interface of libvcs.a.
 
    Strings are lent as a pointer and a length; NULL with length 0 is an empty string. No call changes a byte of a string.
-   A bank is lent likewise and overlaps no string; under 784 bytes it is refused with 8. No call changes a byte beyond 784,
-   and a refused call changes none.
+   A bank is lent likewise and overlaps no string; under VCS_BANK_SIZE bytes it is refused with 8. No call changes a byte
+   beyond VCS_BANK_SIZE, and a refused call changes none.
    Every number may have any value: what doesn't exist is refused. In an answer, `refusal` is 0 if the call is accepted,
    otherwise document 01's number; `at` is then the entry that 1 to 7 name, or the lane that 13 and 14 name, else 0. All
    other members are 0 in a refused answer, but for the reader's position. The library needs `memset` from the C library,
@@ -16,6 +16,12 @@
 #ifdef __cplusplus
 extern "C" {
 #endif
+
+/* The bank: staged sets 0 and 1 and the active set, 2, then the AppSels of each staged set, a byte for each lane (1 to 8). */
+#define VCS_BANK_SIZE 784
+#define VCS_SET_SIZE 256
+#define VCS_SET_START(set) (VCS_SET_SIZE * (set))
+#define VCS_APP_SEL_AT(set, lane) (768 + 8 * (set) + (lane) - 1)
 
 /* Both entry counts, staged and active length. */
 typedef struct {
@@ -37,11 +43,11 @@ typedef struct {
     size_t offset;
 } vcs_located;
 
-/* Where a field stands in a set: its byte, and its lowest bit there, 0 to 7. */
+/* Where a field stands in a set: the offset of its byte, and its lowest bit there, 0 to 7. */
 typedef struct {
     size_t refusal;
     size_t at;
-    size_t byte;
+    size_t offset;
     size_t bit;
 } vcs_placed;
 

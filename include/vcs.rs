@@ -5,11 +5,31 @@
 //
 // Each call is a function on slices, `vcs::load(count, &rw, &ro)`; below them stand the exports of vcs.h, `vcs_load`.
 //
-// No call changes a byte of a string. A bank under 784 bytes is refused with 8. No call changes a byte beyond 784, and
-// a refused call changes none.
+// No call changes a byte of a string. A bank under `BANK_SIZE` bytes is refused with 8. No call changes a byte beyond
+// `BANK_SIZE`, and a refused call changes none.
 // Every number may have any value: what doesn't exist is refused. In an answer, `refusal` is 0 if the call is accepted,
 // otherwise document 01's number; `at` is then the entry that 1 to 7 name, or the lane that 13 and 14 name, else 0. All
 // other members are 0 in a refused answer, but for the reader's position.
+
+/// The bytes of a bank: staged sets 0 and 1 and the active set, 2, then the AppSels of each staged set.
+#[allow(dead_code)]
+pub const BANK_SIZE: usize = 784;
+
+/// The bytes of a set.
+#[allow(dead_code)]
+pub const SET_SIZE: usize = 256;
+
+/// The byte of a bank at which a set starts.
+#[allow(dead_code)]
+pub const fn set_start(set: usize) -> usize {
+    SET_SIZE * set
+}
+
+/// The byte of a bank that is the AppSel of a lane (1 to 8) of a staged set.
+#[allow(dead_code)]
+pub const fn app_sel_at(set: usize, lane: usize) -> usize {
+    768 + 8 * set + lane - 1
+}
 
 /// Both entry counts, staged and active length.
 #[repr(C)]
@@ -35,13 +55,13 @@ pub struct Located {
     pub offset: usize,
 }
 
-/// Where a field stands in a set: its byte, and its lowest bit there, 0 to 7.
+/// Where a field stands in a set: the offset of its byte, and its lowest bit there, 0 to 7.
 #[repr(C)]
 #[derive(Clone, Copy, Debug, Default, PartialEq, Eq)]
 pub struct Placed {
     pub refusal: usize,
     pub at: usize,
-    pub byte: usize,
+    pub offset: usize,
     pub bit: usize,
 }
 

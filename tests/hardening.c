@@ -18,7 +18,7 @@
 
 #include "vcs.h"
 
-enum { PAGE = 4096, BANK_SIZE = 784, LONGEST = 120, LARGEST = 256 };
+enum { PAGE = 4096, LONGEST = 120, LARGEST = VCS_SET_SIZE };
 
 /* The exports, perform by kind; the first seven are numbered as perform's kinds. */
 enum {
@@ -31,7 +31,19 @@ static const char *const NAMES[EXPORTS] = {
     "owner", "fresh", "weight", "take",
 };
 
-static size_t seed = 1, calls = 1000000, made, accepted[EXPORTS], refused[EXPORTS], refusals[15];
+/* What a refusal names, by its number, and whether count, strings and bank alone decide it; 0 stands for an accepted call. */
+enum { NOTHING, AN_ENTRY, A_LANE };
+static const struct {
+    int names;
+    int by_lent;
+} REFUSALS[] = {
+    [1] = {AN_ENTRY, 1}, [2] = {AN_ENTRY, 1}, [3] = {AN_ENTRY, 1}, [4] = {AN_ENTRY, 1}, [5] = {AN_ENTRY, 1},
+    [6] = {AN_ENTRY, 1}, [7] = {AN_ENTRY, 1}, [8] = {NOTHING, 1},  [9] = {NOTHING, 1},  [10] = {NOTHING, 0},
+    [11] = {NOTHING, 0}, [12] = {NOTHING, 0}, [13] = {A_LANE, 0},  [14] = {A_LANE, 0},
+};
+enum { NUMBERS = sizeof REFUSALS / sizeof REFUSALS[0] };
+
+static size_t seed = 1, calls = 1000000, made, accepted[EXPORTS], refused[EXPORTS], refusals[NUMBERS];
 
 /* ---- Random numbers: splitmix64 ---- */
 
@@ -66,8 +78,8 @@ static size_t number(size_t limit)
     case 1:
         return limit + 1 + below(3);
     case 2:
-        return PICK(size_t, 255, 256, 257, 783, 784, 65536, (size_t)1 << 32, ((size_t)1 << 32) + 1, (size_t)1 << 61,
-                    SIZE_MAX / 2, SIZE_MAX / 2 + 1, SIZE_MAX - 1, SIZE_MAX);
+        return PICK(size_t, 255, 256, 257, VCS_BANK_SIZE - 1, VCS_BANK_SIZE, 65536, (size_t)1 << 32, ((size_t)1 << 32) + 1,
+                    (size_t)1 << 61, SIZE_MAX / 2, SIZE_MAX / 2 + 1, SIZE_MAX - 1, SIZE_MAX);
     case 3:
         return next() >> below(64);
     default:
@@ -150,7 +162,7 @@ static void keep(buffer *b)
 static void may_change(size_t from, size_t length)
 {
     buffer *b = &buffers[BANK];
-    if (from > BANK_SIZE || length > BANK_SIZE - from) {
+    if (from > VCS_BANK_SIZE || length > VCS_BANK_SIZE - from) {
         fail("the call", "it is accepted outside the bank");
     }
     size_t at = (size_t)(b->lent - b->page) + from;
@@ -274,14 +286,16 @@ static void make_map(void)
     size_t apps = count;
     count = once_in(24) ? number(16) : count;
     buffer *b = &buffers[BANK];
-    lend(b, once_in(12) ? PICK(size_t, 0, 0, 1, 511, 512, 768, 783, 783) : PICK(size_t, 784, 785, 1000));
-    if (b->length >= BANK_SIZE && !once_in(3)) {
-        memset(b->lent, 0, BANK_SIZE);
-        for (size_t i = 768; i < BANK_SIZE; i++) {
+    lend(b, once_in(12) ? PICK(size_t, 0, 0, 1, VCS_SET_START(2) - 1, VCS_SET_START(2), VCS_APP_SEL_AT(0, 1),
+                               VCS_BANK_SIZE - 1, VCS_BANK_SIZE - 1)
+                        : PICK(size_t, VCS_BANK_SIZE, VCS_BANK_SIZE + 1, VCS_BANK_SIZE + 216));
+    if (b->length >= VCS_BANK_SIZE && !once_in(3)) {
+        memset(b->lent, 0, VCS_BANK_SIZE);
+        for (size_t i = VCS_APP_SEL_AT(0, 1); i <= VCS_APP_SEL_AT(1, 8); i++) {
             b->lent[i] = (uint8_t)(once_in(16) ? below(17) : 1 + below(apps));
         }
         int clear = once_in(2);
-        for (size_t i = 0; i < 512 && !clear; i++) {
+        for (size_t i = 0; i < VCS_SET_START(2) && !clear; i++) {
             b->lent[i] = (uint8_t)below(4);
         }
     }
@@ -309,15 +323,15 @@ static vcs_call arguments(size_t kind)
 static void changes(const vcs_call *c)
 {
     if (c->kind == SELECT) {
-        may_change(768 + 8 * c->set + c->lane - 1, 1);
+        may_change(VCS_APP_SEL_AT(c->set, c->lane), 1);
     } else if (c->kind == WRITE) {
-        may_change(256 * c->set + vcs_place(LENT, c->set, c->entry, c->part, c->lane).byte, 1);
+        may_change(VCS_SET_START(c->set) + vcs_place(LENT, c->set, c->entry, c->part, c->lane).offset, 1);
     } else if (c->kind == BYTE_WRITE) {
-        may_change(256 * c->set + c->offset, 1);
+        may_change(VCS_SET_START(c->set) + c->offset, 1);
     } else if (c->kind == PUBLISH) {
-        may_change(512 + vcs_place(LENT, 2, c->entry, c->part, c->lane).byte, 1);
+        may_change(VCS_SET_START(2) + vcs_place(LENT, 2, c->entry, c->part, c->lane).offset, 1);
     } else if (c->kind == APPLY) {
-        may_change(512, map.staged_length);
+        may_change(VCS_SET_START(2), map.staged_length);
     }
 }
 
@@ -327,7 +341,7 @@ static size_t refused_by_lent(int needs_bank)
     if (count < 1 || count > 15 || buffers[RW].length > LONGEST || buffers[RO].length > LONGEST) {
         return 9;
     }
-    return needs_bank && buffers[BANK].length < BANK_SIZE ? 8 : map.refusal;
+    return needs_bank && buffers[BANK].length < VCS_BANK_SIZE ? 8 : map.refusal;
 }
 
 /* Judges an answer of at most six numbers: the refusal, what it names, then numbers that a refused answer has not. */
@@ -337,11 +351,11 @@ static int judge(size_t export, const void *answer, size_t size)
     memcpy(numbers, answer, size);
     size_t refusal = numbers[0], at = numbers[1];
     size_t expected = refused_by_lent(export < LOAD || export == FRESH || export == WEIGHT);
-    if (expected != 0 ? refusal != expected : refusal > 14 || (refusal != 0 && refusal < 10)) {
+    if (refusal >= NUMBERS || (expected != 0 ? refusal != expected : REFUSALS[refusal].by_lent)) {
         fail(NAMES[export], "another refusal");
     }
-    int named = refusal == 0 || (refusal >= 8 && refusal <= 12) ? at == 0 : refusal <= 7 ? at == map.at : at >= 1 && at <= 8;
-    if (!named) {
+    int names = REFUSALS[refusal].names;
+    if (names == NOTHING ? at != 0 : names == AN_ENTRY ? at != map.at : at < 1 || at > 8) {
         fail(NAMES[export], "another entry or lane");
     }
     for (int i = 2; i < 6 && refusal != 0; i++) {
@@ -420,7 +434,7 @@ static void call_one(size_t export)
     default: is_accepted = JUDGE(vcs_answer, vcs_perform(LENT, LENT_BANK, c)); break;
     }
     if (is_accepted && export == FRESH) {
-        memset(buffers[BANK].kept + (buffers[BANK].lent - buffers[BANK].page), 0, BANK_SIZE);
+        memset(buffers[BANK].kept + (buffers[BANK].lent - buffers[BANK].page), 0, VCS_BANK_SIZE);
     } else if (is_accepted) {
         changes(&c);
     }
@@ -450,7 +464,7 @@ int main(int words, char **word)
             fail(NAMES[i], "never accepted, or never refused");
         }
     }
-    for (size_t i = 1; i < 15; i++) {
+    for (size_t i = 1; i < NUMBERS; i++) {
         if (refusals[i] == 0) {
             printf("hardening: refusal %zu has not occurred\n", i);
             exit(1);

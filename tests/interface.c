@@ -33,7 +33,7 @@ AT(vcs_located, start, 3);
 AT(vcs_located, length, 4);
 AT(vcs_located, offset, 5);
 ANSWER(vcs_placed, 4);
-AT(vcs_placed, byte, 2);
+AT(vcs_placed, offset, 2);
 AT(vcs_placed, bit, 3);
 ANSWER(vcs_owned, 6);
 AT(vcs_owned, gap, 2);
@@ -61,6 +61,12 @@ AT(vcs_taken, end, 1);
 AT(vcs_taken, start, 2);
 AT(vcs_taken, length, 3);
 AT(vcs_taken, position, 4);
+
+/* The bank as document 01 lays it out. */
+_Static_assert(VCS_BANK_SIZE == 784, "a bank has 784 bytes");
+_Static_assert(VCS_SET_SIZE == 256, "a set has 256 bytes");
+_Static_assert(VCS_SET_START(0) == 0 && VCS_SET_START(1) == 256 && VCS_SET_START(2) == 512, "the sets");
+_Static_assert(VCS_APP_SEL_AT(0, 1) == 768 && VCS_APP_SEL_AT(1, 1) == 776 && VCS_APP_SEL_AT(1, 8) == 783, "the AppSels");
 
 _Static_assert(_Generic(&vcs_load,
     vcs_loaded (*)(size_t, const uint8_t *, size_t, const uint8_t *, size_t): 1, default: 0), "vcs_load");
@@ -127,6 +133,7 @@ static void same(const char *name, const void *answer, size_t size, const size_t
 
 /* The numbers of an answer: refusal, at, then the others; 0 where an answer has fewer than six. */
 #define NUMBERS(...) ((const size_t[6]){__VA_ARGS__})
+#define REFUSED(number, at) NUMBERS(number, at)
 
 /* Strings are lent from a copy, which must keep every byte. */
 static uint8_t copy[2][1024];
@@ -210,15 +217,21 @@ static void take(const char *name, map m, size_t position, const size_t expected
 
 /* The lent bank stands at the start of `bank`. A test first gives `wanted` the bytes that the call must change: every
    other byte must be kept, those behind the lent ones too. */
-static uint8_t bank[800], wanted[sizeof bank];
+static uint8_t bank[VCS_BANK_SIZE + 16], wanted[sizeof bank];
+static size_t lent = VCS_BANK_SIZE;
 
-/* A bank as a call takes it; one of no bytes is NULL. */
-#define BANK(length) ((length) == 0 ? NULL : bank), (length)
+/* Where staged set 1 and the active set start. */
+enum { SET_1 = VCS_SET_START(1), ACTIVE = VCS_SET_START(2) };
 
-/* The answer that says yes, one with a number, and a refusal. */
+/* The bank as a call takes it; one of no bytes is NULL. */
+#define BANK (lent == 0 ? NULL : bank), lent
+
+/* A call with a bank of another length. */
+#define LENDING(length, call) (lent = (length), call, lent = VCS_BANK_SIZE)
+
+/* The answer that says yes, and one with a number. */
 #define YES NUMBERS(0)
 #define NUMBER(n) NUMBERS(0, 0, (size_t)(int64_t)(n))
-#define REFUSED(number, at) NUMBERS(number, at)
 
 static void fill(uint8_t byte)
 {
@@ -245,67 +258,64 @@ static void check_bank(const char *name, map m, const void *answer, size_t size,
     }
 }
 
-static void fresh(const char *name, map m, size_t length, const size_t expected[6])
+static void fresh(const char *name, map m, const size_t expected[6])
 {
-    vcs_loaded answer = vcs_fresh(LENT(m), BANK(length));
+    vcs_loaded answer = vcs_fresh(LENT(m), BANK);
     check_bank(name, m, &answer, sizeof answer, expected);
 }
 
-static void choose(const char *name, map m, size_t length, size_t set, size_t lane, size_t app, const size_t expected[6])
+static void choose(const char *name, map m, size_t set, size_t lane, size_t app, const size_t expected[6])
 {
-    vcs_answer answer = vcs_select(LENT(m), BANK(length), set, lane, app);
+    vcs_answer answer = vcs_select(LENT(m), BANK, set, lane, app);
     check_bank(name, m, &answer, sizeof answer, expected);
 }
 
-static void store(const char *name, map m, size_t length, size_t set, size_t number, size_t part, size_t lane,
-                  int64_t value, const size_t expected[6])
-{
-    vcs_answer answer = vcs_write(LENT(m), BANK(length), set, number, part, lane, value);
-    check_bank(name, m, &answer, sizeof answer, expected);
-}
-
-static void fetch(const char *name, map m, size_t length, size_t set, size_t number, size_t part, size_t lane,
+static void store(const char *name, map m, size_t set, size_t number, size_t part, size_t lane, int64_t value,
                   const size_t expected[6])
 {
-    vcs_answer answer = vcs_read(LENT(m), BANK(length), set, number, part, lane);
+    vcs_answer answer = vcs_write(LENT(m), BANK, set, number, part, lane, value);
     check_bank(name, m, &answer, sizeof answer, expected);
 }
 
-static void publish(const char *name, map m, size_t length, size_t number, size_t part, size_t lane, int64_t value,
-                    const size_t expected[6])
+static void fetch(const char *name, map m, size_t set, size_t number, size_t part, size_t lane, const size_t expected[6])
 {
-    vcs_answer answer = vcs_publish(LENT(m), BANK(length), number, part, lane, value);
+    vcs_answer answer = vcs_read(LENT(m), BANK, set, number, part, lane);
     check_bank(name, m, &answer, sizeof answer, expected);
 }
 
-static void store_byte(const char *name, map m, size_t length, size_t set, size_t offset, uint8_t byte,
-                       const size_t expected[6])
+static void publish(const char *name, map m, size_t number, size_t part, size_t lane, int64_t value, const size_t expected[6])
 {
-    vcs_answer answer = vcs_byte_write(LENT(m), BANK(length), set, offset, byte);
+    vcs_answer answer = vcs_publish(LENT(m), BANK, number, part, lane, value);
     check_bank(name, m, &answer, sizeof answer, expected);
 }
 
-static void fetch_byte(const char *name, map m, size_t length, size_t set, size_t offset, const size_t expected[6])
+static void store_byte(const char *name, map m, size_t set, size_t offset, uint8_t byte, const size_t expected[6])
 {
-    vcs_answer answer = vcs_byte_read(LENT(m), BANK(length), set, offset);
+    vcs_answer answer = vcs_byte_write(LENT(m), BANK, set, offset, byte);
     check_bank(name, m, &answer, sizeof answer, expected);
 }
 
-static void apply(const char *name, map m, size_t length, size_t set, uint8_t lanes, const size_t expected[6])
+static void fetch_byte(const char *name, map m, size_t set, size_t offset, const size_t expected[6])
 {
-    vcs_answer answer = vcs_apply(LENT(m), BANK(length), set, lanes);
+    vcs_answer answer = vcs_byte_read(LENT(m), BANK, set, offset);
     check_bank(name, m, &answer, sizeof answer, expected);
 }
 
-static void perform(const char *name, map m, size_t length, vcs_call call, const size_t expected[6])
+static void apply(const char *name, map m, size_t set, uint8_t lanes, const size_t expected[6])
 {
-    vcs_answer answer = vcs_perform(LENT(m), BANK(length), call);
+    vcs_answer answer = vcs_apply(LENT(m), BANK, set, lanes);
     check_bank(name, m, &answer, sizeof answer, expected);
 }
 
-static void weigh(const char *name, map m, size_t length, size_t number, size_t lane, const size_t expected[6])
+static void perform(const char *name, map m, vcs_call call, const size_t expected[6])
 {
-    vcs_answer answer = vcs_weight(LENT(m), BANK(length), number, lane);
+    vcs_answer answer = vcs_perform(LENT(m), BANK, call);
+    check_bank(name, m, &answer, sizeof answer, expected);
+}
+
+static void weigh(const char *name, map m, size_t number, size_t lane, const size_t expected[6])
+{
+    vcs_answer answer = vcs_weight(LENT(m), BANK, number, lane);
     check_bank(name, m, &answer, sizeof answer, expected);
 }
 
@@ -316,32 +326,30 @@ static void loads(void)
 {
     static const uint8_t zeros[1000];
     load("no string", (map){15, NONE, NONE}, NUMBERS(0, 0, 0, 0, 0, 0));
-    load("count 0", (map){0, NONE, NONE}, NUMBERS(9, 0, 0, 0, 0, 0));
-    load("count 16", (map){16, NONE, NONE}, NUMBERS(9, 0, 0, 0, 0, 0));
-    load("count 257", (map){257, NONE, NONE}, NUMBERS(9, 0, 0, 0, 0, 0));
-    load("count 2^32 + 4", (map){((size_t)1 << 32) + 4, NONE, NONE}, NUMBERS(9, 0, 0, 0, 0, 0));
-    load("the largest count", (map){SIZE_MAX, NONE, NONE}, NUMBERS(9, 0, 0, 0, 0, 0));
-    load("RW of 121 bytes", (map){4, zeros, 121, NONE}, NUMBERS(9, 0, 0, 0, 0, 0));
-    load("RO of 1000 bytes", (map){4, NONE, zeros, 1000}, NUMBERS(9, 0, 0, 0, 0, 0));
-    load("RW of 120 bytes, Length 0", (map){4, zeros, 120, NONE}, NUMBERS(2, 0, 0, 0, 0, 0));
-    load("one byte left", (map){4, BYTES(0x00, 0x04, 0x00, 0x01, 0x02), NONE}, NUMBERS(1, 1, 0, 0, 0, 0));
-    load("Length one over", (map){4, BYTES(0x02, 0x06, 0x01, 0x01, 0x00), NONE}, NUMBERS(1, 0, 0, 0, 0, 0));
-    load("P8", (map){4, BYTES(0x02, 0x00), NONE}, NUMBERS(2, 0, 0, 0, 0, 0));
+    load("count 0", (map){0, NONE, NONE}, REFUSED(9, 0));
+    load("count 16", (map){16, NONE, NONE}, REFUSED(9, 0));
+    load("count 257", (map){257, NONE, NONE}, REFUSED(9, 0));
+    load("count 2^32 + 4", (map){((size_t)1 << 32) + 4, NONE, NONE}, REFUSED(9, 0));
+    load("the largest count", (map){SIZE_MAX, NONE, NONE}, REFUSED(9, 0));
+    load("RW of 121 bytes", (map){4, zeros, 121, NONE}, REFUSED(9, 0));
+    load("RO of 1000 bytes", (map){4, NONE, zeros, 1000}, REFUSED(9, 0));
+    load("RW of 120 bytes, Length 0", (map){4, zeros, 120, NONE}, REFUSED(2, 0));
+    load("one byte left", (map){4, BYTES(0x00, 0x04, 0x00, 0x01, 0x02), NONE}, REFUSED(1, 1));
+    load("Length one over", (map){4, BYTES(0x02, 0x06, 0x01, 0x01, 0x00), NONE}, REFUSED(1, 0));
+    load("P8", (map){4, BYTES(0x02, 0x00), NONE}, REFUSED(2, 0));
     load("an RW parameter in RO", (map){4, BYTES(0x00, 0x04, 0x00, 0x01), BYTES(0x02, 0x05, 0x01, 0x01, 0x00)},
-         NUMBERS(3, 1, 0, 0, 0, 0));
-    load("P9, MemoryLength 3", (map){4, BYTES(0x04, 0x07, 0x01, 0x03, 0x00, 0x00, 0x04), NONE},
-         NUMBERS(4, 0, 0, 0, 0, 0));
+         REFUSED(3, 1));
+    load("P9, MemoryLength 3", (map){4, BYTES(0x04, 0x07, 0x01, 0x03, 0x00, 0x00, 0x04), NONE}, REFUSED(4, 0));
     load("P9, MemoryLength 5", (map){4, BYTES(0x04, 0x07, 0x01, 0x05, 0x00, 0x00, 0x04), NONE},
          NUMBERS(0, 0, 1, 0, 5, 5));
-    load("step 4", (map){4, NONE, BYTES(0x12, 0x07, 0x01, 0x08, 0x00, 0xFF, 0x04)}, NUMBERS(5, 0, 0, 0, 0, 0));
+    load("step 4", (map){4, NONE, BYTES(0x12, 0x07, 0x01, 0x08, 0x00, 0xFF, 0x04)}, REFUSED(5, 0));
     load("step 3", (map){4, NONE, BYTES(0x12, 0x07, 0x01, 0x08, 0x00, 0xFF, 0x03)}, NUMBERS(0, 0, 0, 1, 0, 8));
     load("host side after media side",
          (map){4, BYTES(0x0F, 0x05, 0x01, 0x08, 0x01, 0x02, 0x05, 0x01, 0x01, 0x00), NONE},
-         NUMBERS(6, 1, 0, 0, 0, 0));
+         REFUSED(6, 1));
     load("P12, 255 and 1", (map){4, BYTES(0x00, 0x04, 0x00, 0xFF), BYTES(0x00, 0x04, 0x00, 0x01)},
          NUMBERS(0, 0, 1, 1, 255, 256));
-    load("P12, 255 and 2", (map){4, BYTES(0x00, 0x04, 0x00, 0xFF), BYTES(0x00, 0x04, 0x00, 0x02)},
-         NUMBERS(7, 1, 0, 0, 0, 0));
+    load("P12, 255 and 2", (map){4, BYTES(0x00, 0x04, 0x00, 0xFF), BYTES(0x00, 0x04, 0x00, 0x02)}, REFUSED(7, 1));
     load("two mask bytes", (map){9, BYTES(0x02, 0x06, 0x00, 0x01, 0x03, 0x00), NONE}, NUMBERS(0, 0, 1, 0, 3, 3));
 }
 
@@ -360,16 +368,16 @@ static void entries(void)
     entry("entry 2", m, 2, NUMBERS(0, 0, 0, 10, 5, 3));
     entry("entry 3, RO", m, 3, NUMBERS(0, 0, 1, 0, 5, 4));
     entry("entry 4, RO", m, 4, NUMBERS(0, 0, 1, 5, 8, 20));
-    entry("entry 5", m, 5, NUMBERS(10, 0, 0, 0, 0, 0));
-    entry("entry 2^32", m, (size_t)1 << 32, NUMBERS(10, 0, 0, 0, 0, 0));
-    entry("the largest entry", m, SIZE_MAX, NUMBERS(10, 0, 0, 0, 0, 0));
+    entry("entry 5", m, 5, REFUSED(10, 0));
+    entry("entry 2^32", m, (size_t)1 << 32, REFUSED(10, 0));
+    entry("the largest entry", m, SIZE_MAX, REFUSED(10, 0));
     m.count = 0;
-    entry("9 before 10", m, SIZE_MAX, NUMBERS(9, 0, 0, 0, 0, 0));
+    entry("9 before 10", m, SIZE_MAX, REFUSED(9, 0));
     m.count = 4;
     m.ro_length = 6;
-    entry("a bad RO string refuses an RW entry", m, 0, NUMBERS(1, 4, 0, 0, 0, 0));
-    entry("1 before 10", m, 99, NUMBERS(1, 4, 0, 0, 0, 0));
-    entry("no string", (map){1, NONE, NONE}, 0, NUMBERS(10, 0, 0, 0, 0, 0));
+    entry("a bad RO string refuses an RW entry", m, 0, REFUSED(1, 4));
+    entry("1 before 10", m, 99, REFUSED(1, 4));
+    entry("no string", (map){1, NONE, NONE}, 0, REFUSED(10, 0));
 }
 
 static void places(void)
@@ -381,26 +389,26 @@ static void places(void)
     place("11h, upper eye, lane 8", m, 2, 3, 0, 8, NUMBERS(0, 0, 11, 0));
     place("11h, lower eye, lane 1", m, 2, 3, 1, 1, NUMBERS(0, 0, 12, 0));
     place("12h, lane 8", m, 2, 4, 0, 8, NUMBERS(0, 0, 27, 0));
-    place("11h in set 0", m, 0, 3, 0, 1, NUMBERS(11, 0, 0, 0));
-    place("12h in set 1", m, 1, 4, 0, 8, NUMBERS(11, 0, 0, 0));
-    place("10 before 11: part 2", m, 0, 3, 2, 1, NUMBERS(10, 0, 0, 0));
-    place("10 before 11: lane 9", m, 1, 4, 0, 9, NUMBERS(10, 0, 0, 0));
-    place("lane 0", m, 0, 0, 0, 0, NUMBERS(10, 0, 0, 0));
-    place("lane 9", m, 2, 0, 0, 9, NUMBERS(10, 0, 0, 0));
-    place("lane 2^61 + 1", m, 2, 4, 0, ((size_t)1 << 61) + 1, NUMBERS(10, 0, 0, 0));
-    place("part 1 of 02h", m, 0, 0, 1, 1, NUMBERS(10, 0, 0, 0));
-    place("part 2 of 11h", m, 2, 3, 2, 1, NUMBERS(10, 0, 0, 0));
-    place("00h has no field", m, 2, 1, 0, 1, NUMBERS(10, 0, 0, 0));
-    place("entry 5", m, 2, 5, 0, 1, NUMBERS(10, 0, 0, 0));
-    place("set 3", m, 3, 0, 0, 1, NUMBERS(10, 0, 0, 0));
-    place("set 2^32", m, (size_t)1 << 32, 0, 0, 1, NUMBERS(10, 0, 0, 0));
-    place("the largest numbers", m, SIZE_MAX, SIZE_MAX, SIZE_MAX, SIZE_MAX, NUMBERS(10, 0, 0, 0));
+    place("11h in set 0", m, 0, 3, 0, 1, REFUSED(11, 0));
+    place("12h in set 1", m, 1, 4, 0, 8, REFUSED(11, 0));
+    place("10 before 11: part 2", m, 0, 3, 2, 1, REFUSED(10, 0));
+    place("10 before 11: lane 9", m, 1, 4, 0, 9, REFUSED(10, 0));
+    place("lane 0", m, 0, 0, 0, 0, REFUSED(10, 0));
+    place("lane 9", m, 2, 0, 0, 9, REFUSED(10, 0));
+    place("lane 2^61 + 1", m, 2, 4, 0, ((size_t)1 << 61) + 1, REFUSED(10, 0));
+    place("part 1 of 02h", m, 0, 0, 1, 1, REFUSED(10, 0));
+    place("part 2 of 11h", m, 2, 3, 2, 1, REFUSED(10, 0));
+    place("00h has no field", m, 2, 1, 0, 1, REFUSED(10, 0));
+    place("entry 5", m, 2, 5, 0, 1, REFUSED(10, 0));
+    place("set 3", m, 3, 0, 0, 1, REFUSED(10, 0));
+    place("set 2^32", m, (size_t)1 << 32, 0, 0, 1, REFUSED(10, 0));
+    place("the largest numbers", m, SIZE_MAX, SIZE_MAX, SIZE_MAX, SIZE_MAX, REFUSED(10, 0));
     m.count = 16;
-    place("9 before 10", m, 3, 5, 0, 0, NUMBERS(9, 0, 0, 0));
+    place("9 before 10", m, 3, 5, 0, 0, REFUSED(9, 0));
     m.count = 4;
     m.ro_length = 6;
-    place("a bad RO string refuses an RW field", m, 0, 0, 0, 1, NUMBERS(1, 4, 0, 0));
-    place("1 before 11", m, 0, 3, 0, 1, NUMBERS(1, 4, 0, 0));
+    place("a bad RO string refuses an RW field", m, 0, 0, 0, 1, REFUSED(1, 4));
+    place("1 before 11", m, 0, 3, 0, 1, REFUSED(1, 4));
 }
 
 static void owners(void)
@@ -415,20 +423,20 @@ static void owners(void)
     owner("reserved, set 0", m, 0, 1, 0, NUMBERS(0, 0, 1, 0, 0, 0));
     owner("reserved, active", m, 2, 2, 7, NUMBERS(0, 0, 1, 0, 0, 0));
     owner("surplus of 12h", m, 2, 28, 0, NUMBERS(0, 0, 1, 0, 0, 0));
-    owner("the active length", m, 2, 29, 0, NUMBERS(10, 0, 0, 0, 0, 0));
-    owner("the staged length, set 0", m, 0, 4, 0, NUMBERS(10, 0, 0, 0, 0, 0));
-    owner("space of RO in set 1", m, 1, 20, 0, NUMBERS(10, 0, 0, 0, 0, 0));
-    owner("bit 8", m, 2, 0, 8, NUMBERS(10, 0, 0, 0, 0, 0));
-    owner("set 3", m, 3, 0, 0, NUMBERS(10, 0, 0, 0, 0, 0));
-    owner("offset 2^61", m, 2, (size_t)1 << 61, 0, NUMBERS(10, 0, 0, 0, 0, 0));
-    owner("the largest numbers", m, SIZE_MAX, SIZE_MAX, SIZE_MAX, NUMBERS(10, 0, 0, 0, 0, 0));
-    owner("no string", (map){1, NONE, NONE}, 2, 0, 0, NUMBERS(10, 0, 0, 0, 0, 0));
+    owner("the active length", m, 2, 29, 0, REFUSED(10, 0));
+    owner("the staged length, set 0", m, 0, 4, 0, REFUSED(10, 0));
+    owner("space of RO in set 1", m, 1, 20, 0, REFUSED(10, 0));
+    owner("bit 8", m, 2, 0, 8, REFUSED(10, 0));
+    owner("set 3", m, 3, 0, 0, REFUSED(10, 0));
+    owner("offset 2^61", m, 2, (size_t)1 << 61, 0, REFUSED(10, 0));
+    owner("the largest numbers", m, SIZE_MAX, SIZE_MAX, SIZE_MAX, REFUSED(10, 0));
+    owner("no string", (map){1, NONE, NONE}, 2, 0, 0, REFUSED(10, 0));
     m.count = 0;
-    owner("9 before 10", m, 2, 29, 8, NUMBERS(9, 0, 0, 0, 0, 0));
+    owner("9 before 10", m, 2, 29, 8, REFUSED(9, 0));
     m.count = 4;
     m.ro_length = 6;
-    owner("a bad RO string refuses an RW bit", m, 0, 0, 0, NUMBERS(1, 4, 0, 0, 0, 0));
-    owner("1 before 10", m, 3, 29, 8, NUMBERS(1, 4, 0, 0, 0, 0));
+    owner("a bad RO string refuses an RW bit", m, 0, 0, 0, REFUSED(1, 4));
+    owner("1 before 10", m, 3, 29, 8, REFUSED(1, 4));
 }
 
 /* 02h, 03h at offset 1, 04h at 3 with mask 1FFFh, 00h that reserves 2, 07h at 9 with mask 0FFFh. */
@@ -455,52 +463,52 @@ static void fresh_banks(void)
 {
     map m = THE_MAP;
     fill(0xFF);
-    fresh("no bank", m, 0, REFUSED(8, 0));
-    fresh("a bank of 783 bytes", m, 783, REFUSED(8, 0));
+    LENDING(0, fresh("no bank", m, REFUSED(8, 0)));
+    LENDING(VCS_BANK_SIZE - 1, fresh("one byte short", m, REFUSED(8, 0)));
     m.count = 16;
-    fresh("9 before 8", m, 783, REFUSED(9, 0));
+    LENDING(VCS_BANK_SIZE - 1, fresh("9 before 8", m, REFUSED(9, 0)));
     m.count = 4;
     m.ro_length = 6;
-    fresh("8 before 1", m, 783, REFUSED(8, 0));
-    fresh("a bad string", m, 784, REFUSED(1, 4));
+    LENDING(VCS_BANK_SIZE - 1, fresh("8 before 1", m, REFUSED(8, 0)));
+    fresh("a bad string", m, REFUSED(1, 4));
     m = (map)THE_MAP;
-    memset(wanted, 0, 784);
-    fresh("a bank of 784 bytes", m, 784, NUMBERS(0, 0, 3, 2, 4, 29));
+    memset(wanted, 0, VCS_BANK_SIZE);
+    fresh("a whole bank", m, NUMBERS(0, 0, 3, 2, 4, 29));
     fill(0xFF);
-    memset(wanted, 0, 784);
-    fresh("the 785th byte is kept", m, 785, NUMBERS(0, 0, 3, 2, 4, 29));
+    memset(wanted, 0, VCS_BANK_SIZE);
+    LENDING(VCS_BANK_SIZE + 1, fresh("the byte behind is kept", m, NUMBERS(0, 0, 3, 2, 4, 29)));
     fill(0x5A);
-    memset(wanted, 0, 784);
-    fresh("no string", (map){15, NONE, NONE}, sizeof bank, NUMBERS(0));
+    memset(wanted, 0, VCS_BANK_SIZE);
+    LENDING(sizeof bank, fresh("no string", (map){15, NONE, NONE}, NUMBERS(0)));
 }
 
 static void selects(void)
 {
     map m = THE_MAP;
     fill(0xFF);
-    wanted[768] = 4;
-    choose("set 0, lane 1", m, 784, 0, 1, 4, YES);
-    wanted[783] = 0;
-    choose("set 1, lane 8, app 0", m, 784, 1, 8, 0, YES);
-    wanted[776] = 1;
-    choose("set 1, lane 1", m, 785, 1, 1, 1, YES);
-    choose("app 5 of 4", m, 784, 0, 1, 5, REFUSED(12, 0));
-    choose("app 257", m, 784, 0, 1, 257, REFUSED(12, 0));
-    choose("the largest app", m, 784, 0, 1, SIZE_MAX, REFUSED(12, 0));
-    choose("select on set 2", m, 784, 2, 1, 1, REFUSED(11, 0));
-    choose("11 before 12", m, 784, 2, 8, 5, REFUSED(11, 0));
-    choose("10 before 11", m, 784, 2, 9, 1, REFUSED(10, 0));
-    choose("set 3", m, 784, 3, 1, 1, REFUSED(10, 0));
-    choose("lane 0", m, 784, 0, 0, 1, REFUSED(10, 0));
-    choose("lane 9", m, 784, 0, 9, 1, REFUSED(10, 0));
-    choose("lane 2^32 + 1", m, 784, 1, ((size_t)1 << 32) + 1, 1, REFUSED(10, 0));
-    choose("select, 783 bytes", m, 783, 0, 1, 1, REFUSED(8, 0));
-    choose("select, no bank", m, 0, 3, 0, 5, REFUSED(8, 0));
-    wanted[775] = 15;
-    choose("app 15 of 15", (map){15, NONE, NONE}, 784, 0, 8, 15, YES);
-    choose("app 16 of 15", (map){15, NONE, NONE}, 784, 0, 8, 16, REFUSED(12, 0));
+    wanted[VCS_APP_SEL_AT(0, 1)] = 4;
+    choose("set 0, lane 1", m, 0, 1, 4, YES);
+    wanted[VCS_APP_SEL_AT(1, 8)] = 0;
+    choose("set 1, lane 8, app 0", m, 1, 8, 0, YES);
+    wanted[VCS_APP_SEL_AT(1, 1)] = 1;
+    LENDING(VCS_BANK_SIZE + 1, choose("set 1, lane 1", m, 1, 1, 1, YES));
+    choose("app 5 of 4", m, 0, 1, 5, REFUSED(12, 0));
+    choose("app 257", m, 0, 1, 257, REFUSED(12, 0));
+    choose("the largest app", m, 0, 1, SIZE_MAX, REFUSED(12, 0));
+    choose("select on set 2", m, 2, 1, 1, REFUSED(11, 0));
+    choose("11 before 12", m, 2, 8, 5, REFUSED(11, 0));
+    choose("10 before 11", m, 2, 9, 1, REFUSED(10, 0));
+    choose("set 3", m, 3, 1, 1, REFUSED(10, 0));
+    choose("lane 0", m, 0, 0, 1, REFUSED(10, 0));
+    choose("lane 9", m, 0, 9, 1, REFUSED(10, 0));
+    choose("lane 2^32 + 1", m, 1, ((size_t)1 << 32) + 1, 1, REFUSED(10, 0));
+    LENDING(VCS_BANK_SIZE - 1, choose("select, one byte short", m, 0, 1, 1, REFUSED(8, 0)));
+    LENDING(0, choose("select, no bank", m, 3, 0, 5, REFUSED(8, 0)));
+    wanted[VCS_APP_SEL_AT(0, 8)] = 15;
+    choose("app 15 of 15", (map){15, NONE, NONE}, 0, 8, 15, YES);
+    choose("app 16 of 15", (map){15, NONE, NONE}, 0, 8, 16, REFUSED(12, 0));
     m.ro_length = 6;
-    choose("select, a bad string", m, 784, 0, 1, 1, REFUSED(1, 4));
+    choose("select, a bad string", m, 0, 1, 1, REFUSED(1, 4));
 }
 
 static void writes(void)
@@ -508,107 +516,107 @@ static void writes(void)
     map m = THE_SETTINGS;
     fill(0xFF);
     wanted[0] = 0xFB;
-    store("02h, lane 3, set 0", m, 784, 0, 0, 0, 3, 0, YES);
-    wanted[256 + 2] = 0xFE;
-    store("P2, set 1", m, 784, 1, 1, 0, 5, 2, YES);
-    store("03h takes no 3", m, 784, 1, 1, 0, 5, 3, REFUSED(12, 0));
+    store("02h, lane 3, set 0", m, 0, 0, 0, 3, 0, YES);
+    wanted[SET_1 + 2] = 0xFE;
+    store("P2, set 1", m, 1, 1, 0, 5, 2, YES);
+    store("03h takes no 3", m, 1, 1, 0, 5, 3, REFUSED(12, 0));
     wanted[3] = 0xCF;
-    store("P3, P10", m, 785, 0, 2, 0, 2, 12, YES);
-    store("P10, 13", m, 784, 0, 2, 0, 2, 13, REFUSED(12, 0));
+    LENDING(VCS_BANK_SIZE + 1, store("P3, P10", m, 0, 2, 0, 2, 12, YES));
+    store("P10, 13", m, 0, 2, 0, 2, 13, REFUSED(12, 0));
     wanted[6] = 0xF0;
-    store("P4", m, 784, 0, 2, 0, 7, 0, YES);
-    wanted[256 + 13] = 0xFB;
-    store("P5, set 1, 11", m, 784, 1, 4, 1, 1, 11, YES);
-    store("a reserved code in the mask", m, 784, 1, 4, 1, 1, 10, REFUSED(12, 0));
-    store("a code not in the mask", m, 784, 1, 4, 1, 1, 12, REFUSED(12, 0));
-    store("-1", m, 784, 0, 0, 0, 1, -1, REFUSED(12, 0));
-    store("2^32", m, 784, 0, 0, 0, 1, (int64_t)1 << 32, REFUSED(12, 0));
-    store("the least value", m, 784, 0, 0, 0, 1, INT64_MIN, REFUSED(12, 0));
-    store("the largest value", m, 784, 0, 2, 0, 1, INT64_MAX, REFUSED(12, 0));
-    store("write on set 2", m, 784, 2, 0, 0, 1, 0, REFUSED(11, 0));
-    store("11 before 12", m, 784, 2, 0, 0, 1, 2, REFUSED(11, 0));
-    store("10 before 11", m, 784, 2, 0, 1, 1, 0, REFUSED(10, 0));
-    store("set 3", m, 784, 3, 0, 0, 1, 0, REFUSED(10, 0));
-    store("00h has no field", m, 784, 0, 3, 0, 1, 0, REFUSED(10, 0));
-    store("write, 783 bytes", m, 783, 0, 0, 0, 1, 0, REFUSED(8, 0));
+    store("P4", m, 0, 2, 0, 7, 0, YES);
+    wanted[SET_1 + 13] = 0xFB;
+    store("P5, set 1, 11", m, 1, 4, 1, 1, 11, YES);
+    store("a reserved code in the mask", m, 1, 4, 1, 1, 10, REFUSED(12, 0));
+    store("a code not in the mask", m, 1, 4, 1, 1, 12, REFUSED(12, 0));
+    store("-1", m, 0, 0, 0, 1, -1, REFUSED(12, 0));
+    store("2^32", m, 0, 0, 0, 1, (int64_t)1 << 32, REFUSED(12, 0));
+    store("the least value", m, 0, 0, 0, 1, INT64_MIN, REFUSED(12, 0));
+    store("the largest value", m, 0, 2, 0, 1, INT64_MAX, REFUSED(12, 0));
+    store("write on set 2", m, 2, 0, 0, 1, 0, REFUSED(11, 0));
+    store("11 before 12", m, 2, 0, 0, 1, 2, REFUSED(11, 0));
+    store("10 before 11", m, 2, 0, 1, 1, 0, REFUSED(10, 0));
+    store("set 3", m, 3, 0, 0, 1, 0, REFUSED(10, 0));
+    store("00h has no field", m, 0, 3, 0, 1, 0, REFUSED(10, 0));
+    LENDING(VCS_BANK_SIZE - 1, store("write, one byte short", m, 0, 0, 0, 1, 0, REFUSED(8, 0)));
     m = (map){1, BYTES(0x08, 0x07, 0x00, 0x04, 0x00, 0xFF, 0xFF, 0x10, 0x05, 0x00, 0x08, 0x00), NONE};
     wanted[0] = 0x3B;
-    store("P11, 3", m, 784, 0, 0, 0, 2, 3, YES);
-    store("P11, 4", m, 784, 0, 0, 0, 2, 4, REFUSED(12, 0));
+    store("P11, 3", m, 0, 0, 0, 2, 3, YES);
+    store("P11, 4", m, 0, 0, 0, 2, 4, REFUSED(12, 0));
     wanted[0] = 0xFB;
-    store("P11, 15", m, 784, 0, 0, 0, 2, 15, YES);
-    wanted[256 + 4] = 128;
-    store("10h, 128", m, 784, 1, 1, 0, 1, 128, YES);
-    wanted[256 + 4] = 255;
-    store("10h, 255", m, 784, 1, 1, 0, 1, 255, YES);
-    store("10h, 256", m, 784, 1, 1, 0, 1, 256, REFUSED(12, 0));
+    store("P11, 15", m, 0, 0, 0, 2, 15, YES);
+    wanted[SET_1 + 4] = 128;
+    store("10h, 128", m, 1, 1, 0, 1, 128, YES);
+    wanted[SET_1 + 4] = 255;
+    store("10h, 255", m, 1, 1, 0, 1, 255, YES);
+    store("10h, 256", m, 1, 1, 0, 1, 256, REFUSED(12, 0));
     m = (map)THE_MAP;
-    store("an RO entry in set 0", m, 784, 0, 3, 0, 1, 0, REFUSED(11, 0));
-    store("an RO entry in set 2", m, 784, 2, 4, 0, 1, 0, REFUSED(11, 0));
+    store("an RO entry in set 0", m, 0, 3, 0, 1, 0, REFUSED(11, 0));
+    store("an RO entry in set 2", m, 2, 4, 0, 1, 0, REFUSED(11, 0));
     m.ro_length = 6;
-    store("write, a bad string", m, 784, 0, 0, 0, 1, 0, REFUSED(1, 4));
+    store("write, a bad string", m, 0, 0, 0, 1, 0, REFUSED(1, 4));
 }
 
 static void reads(void)
 {
     map m = THE_MAP;
     fill(0xFF);
-    fetch("02h, all ones", m, 784, 0, 0, 0, 1, NUMBER(1));
-    fetch("12h, all ones", m, 784, 2, 4, 0, 1, NUMBER(-1));
-    put(512 + 20, 0xF2);
-    fetch("P6", m, 784, 2, 4, 0, 1, NUMBER(-14));
-    put(512 + 19, 0x80);
-    fetch("P7, lower eye, lane 8", m, 785, 2, 3, 1, 8, NUMBER(-128));
-    put(512 + 11, 0x7F);
-    fetch("upper eye, lane 8", m, 784, 2, 3, 0, 8, NUMBER(127));
-    put(256 + 3, 0xF7);
-    fetch("05h, lane 4, set 1", m, 784, 1, 2, 0, 4, NUMBER(0));
-    fetch("05h, lane 4, set 0", m, 784, 0, 2, 0, 4, NUMBER(1));
-    fetch("read of 11h in set 0", m, 784, 0, 3, 0, 1, REFUSED(11, 0));
-    fetch("10 before 11", m, 784, 0, 3, 2, 1, REFUSED(10, 0));
-    fetch("set 3", m, 784, 3, 0, 0, 1, REFUSED(10, 0));
-    fetch("lane 0", m, 784, 2, 0, 0, 0, REFUSED(10, 0));
-    fetch("00h has no field", m, 784, 2, 1, 0, 1, REFUSED(10, 0));
-    fetch("read, 783 bytes", m, 783, 0, 0, 0, 1, REFUSED(8, 0));
-    fetch("read, no bank", m, 0, 3, 0, 0, 1, REFUSED(8, 0));
+    fetch("02h, all ones", m, 0, 0, 0, 1, NUMBER(1));
+    fetch("12h, all ones", m, 2, 4, 0, 1, NUMBER(-1));
+    put(ACTIVE + 20, 0xF2);
+    fetch("P6", m, 2, 4, 0, 1, NUMBER(-14));
+    put(ACTIVE + 19, 0x80);
+    LENDING(VCS_BANK_SIZE + 1, fetch("P7, lower eye, lane 8", m, 2, 3, 1, 8, NUMBER(-128)));
+    put(ACTIVE + 11, 0x7F);
+    fetch("upper eye, lane 8", m, 2, 3, 0, 8, NUMBER(127));
+    put(SET_1 + 3, 0xF7);
+    fetch("05h, lane 4, set 1", m, 1, 2, 0, 4, NUMBER(0));
+    fetch("05h, lane 4, set 0", m, 0, 2, 0, 4, NUMBER(1));
+    fetch("read of 11h in set 0", m, 0, 3, 0, 1, REFUSED(11, 0));
+    fetch("10 before 11", m, 0, 3, 2, 1, REFUSED(10, 0));
+    fetch("set 3", m, 3, 0, 0, 1, REFUSED(10, 0));
+    fetch("lane 0", m, 2, 0, 0, 0, REFUSED(10, 0));
+    fetch("00h has no field", m, 2, 1, 0, 1, REFUSED(10, 0));
+    LENDING(VCS_BANK_SIZE - 1, fetch("read, one byte short", m, 0, 0, 0, 1, REFUSED(8, 0)));
+    LENDING(0, fetch("read, no bank", m, 3, 0, 0, 1, REFUSED(8, 0)));
     m.ro_length = 6;
-    fetch("read, a bad string", m, 784, 0, 0, 0, 1, REFUSED(1, 4));
+    fetch("read, a bad string", m, 0, 0, 0, 1, REFUSED(1, 4));
     m = (map)THE_SETTINGS;
     put(3, 0xC5);
-    fetch("lane 1 in the low four bits", m, 784, 0, 2, 0, 1, NUMBER(5));
-    fetch("lane 2 in the high four bits", m, 784, 0, 2, 0, 2, NUMBER(12));
-    put(256 + 1, 0xC0);
-    fetch("a value that write doesn't take", m, 784, 1, 1, 0, 4, NUMBER(3));
-    put(512, 0xF2);
-    fetch("0Fh is unsigned", (map){1, BYTES(0x0F, 0x05, 0x00, 0x08, 0x00), NONE}, 784, 2, 0, 0, 1, NUMBER(242));
+    fetch("lane 1 in the low four bits", m, 0, 2, 0, 1, NUMBER(5));
+    fetch("lane 2 in the high four bits", m, 0, 2, 0, 2, NUMBER(12));
+    put(SET_1 + 1, 0xC0);
+    fetch("a value that write doesn't take", m, 1, 1, 0, 4, NUMBER(3));
+    put(ACTIVE, 0xF2);
+    fetch("0Fh is unsigned", (map){1, BYTES(0x0F, 0x05, 0x00, 0x08, 0x00), NONE}, 2, 0, 0, 1, NUMBER(242));
 }
 
 static void publishes(void)
 {
     map m = THE_MAP;
     fill(0x00);
-    wanted[512 + 20] = 0xF2;
-    publish("P6", m, 784, 4, 0, 1, -14, YES);
-    fetch("P6, read", m, 784, 2, 4, 0, 1, NUMBER(-14));
-    wanted[512 + 19] = 0x80;
-    publish("P7, lower eye, lane 8", m, 785, 3, 1, 8, -128, YES);
-    wanted[512 + 4] = 0x7F;
-    publish("upper eye, lane 1", m, 784, 3, 0, 1, 127, YES);
-    publish("128", m, 784, 3, 0, 1, 128, REFUSED(12, 0));
-    publish("-129", m, 784, 4, 0, 1, -129, REFUSED(12, 0));
-    publish("the largest value", m, 784, 4, 0, 1, INT64_MAX, REFUSED(12, 0));
-    publish("an RW entry", m, 784, 0, 0, 1, 0, REFUSED(11, 0));
-    publish("11 before 12", m, 784, 0, 0, 1, 2, REFUSED(11, 0));
-    publish("10 before 11", m, 784, 0, 1, 1, 0, REFUSED(10, 0));
-    publish("00h has no field", m, 784, 1, 0, 1, 0, REFUSED(10, 0));
-    publish("entry 5", m, 784, 5, 0, 1, 0, REFUSED(10, 0));
-    publish("lane 9", m, 784, 4, 0, 9, 0, REFUSED(10, 0));
-    publish("publish, 783 bytes", m, 783, 4, 0, 1, 0, REFUSED(8, 0));
+    wanted[ACTIVE + 20] = 0xF2;
+    publish("P6", m, 4, 0, 1, -14, YES);
+    fetch("P6, read", m, 2, 4, 0, 1, NUMBER(-14));
+    wanted[ACTIVE + 19] = 0x80;
+    LENDING(VCS_BANK_SIZE + 1, publish("P7, lower eye, lane 8", m, 3, 1, 8, -128, YES));
+    wanted[ACTIVE + 4] = 0x7F;
+    publish("upper eye, lane 1", m, 3, 0, 1, 127, YES);
+    publish("128", m, 3, 0, 1, 128, REFUSED(12, 0));
+    publish("-129", m, 4, 0, 1, -129, REFUSED(12, 0));
+    publish("the largest value", m, 4, 0, 1, INT64_MAX, REFUSED(12, 0));
+    publish("an RW entry", m, 0, 0, 1, 0, REFUSED(11, 0));
+    publish("11 before 12", m, 0, 0, 1, 2, REFUSED(11, 0));
+    publish("10 before 11", m, 0, 1, 1, 0, REFUSED(10, 0));
+    publish("00h has no field", m, 1, 0, 1, 0, REFUSED(10, 0));
+    publish("entry 5", m, 5, 0, 1, 0, REFUSED(10, 0));
+    publish("lane 9", m, 4, 0, 9, 0, REFUSED(10, 0));
+    LENDING(VCS_BANK_SIZE - 1, publish("publish, one byte short", m, 4, 0, 1, 0, REFUSED(8, 0)));
     m.count = 0;
-    publish("publish, count 0", m, 783, 4, 0, 1, 0, REFUSED(9, 0));
+    LENDING(VCS_BANK_SIZE - 1, publish("publish, count 0", m, 4, 0, 1, 0, REFUSED(9, 0)));
     m.count = 4;
     m.ro_length = 6;
-    publish("publish, a bad string", m, 784, 4, 0, 1, 0, REFUSED(1, 4));
+    publish("publish, a bad string", m, 4, 0, 1, 0, REFUSED(1, 4));
 }
 
 /* A set of 256 bytes, all of them gaps: P12. */
@@ -619,89 +627,89 @@ static void byte_writes(void)
     map m = THE_MAP;
     fill(0xFF);
     wanted[0] = 0xA5;
-    store_byte("02h, set 0", m, 784, 0, 0, 0xA5, YES);
-    fetch("lane 1 after a byte write", m, 784, 0, 0, 0, 1, NUMBER(1));
-    fetch("lane 2 after a byte write", m, 784, 0, 0, 0, 2, NUMBER(0));
-    wanted[256 + 3] = 0;
-    store_byte("05h, set 1", m, 785, 1, 3, 0, YES);
-    wanted[256 + 1] = 0;
-    store_byte("a gap becomes 0, the next one keeps its bits", m, 784, 1, 1, 0xFF, YES);
-    store_byte("byte write on set 2", m, 784, 2, 0, 0, REFUSED(11, 0));
-    store_byte("the last byte of set 2", m, 784, 2, 28, 0, REFUSED(11, 0));
-    store_byte("10 before 11: the active length", m, 784, 2, 29, 0, REFUSED(10, 0));
-    store_byte("the staged length, set 0", m, 784, 0, 4, 0, REFUSED(10, 0));
-    store_byte("a byte of RO in set 1", m, 784, 1, 20, 0, REFUSED(10, 0));
-    store_byte("set 3", m, 784, 3, 0, 0, REFUSED(10, 0));
-    store_byte("set 2^32", m, 784, (size_t)1 << 32, 0, 0, REFUSED(10, 0));
-    store_byte("offset 256", m, 784, 0, 256, 0, REFUSED(10, 0));
-    store_byte("offset 2^32", m, 784, 0, (size_t)1 << 32, 0, REFUSED(10, 0));
-    store_byte("the largest numbers", m, 784, SIZE_MAX, SIZE_MAX, 0xFF, REFUSED(10, 0));
-    store_byte("byte write, 783 bytes", m, 783, 0, 0, 0, REFUSED(8, 0));
-    store_byte("byte write, no bank", m, 0, 3, 4, 0, REFUSED(8, 0));
+    store_byte("02h, set 0", m, 0, 0, 0xA5, YES);
+    fetch("lane 1 after a byte write", m, 0, 0, 0, 1, NUMBER(1));
+    fetch("lane 2 after a byte write", m, 0, 0, 0, 2, NUMBER(0));
+    wanted[SET_1 + 3] = 0;
+    LENDING(VCS_BANK_SIZE + 1, store_byte("05h, set 1", m, 1, 3, 0, YES));
+    wanted[SET_1 + 1] = 0;
+    store_byte("a gap becomes 0, the next one keeps its bits", m, 1, 1, 0xFF, YES);
+    store_byte("byte write on set 2", m, 2, 0, 0, REFUSED(11, 0));
+    store_byte("the last byte of set 2", m, 2, 28, 0, REFUSED(11, 0));
+    store_byte("10 before 11: the active length", m, 2, 29, 0, REFUSED(10, 0));
+    store_byte("the staged length, set 0", m, 0, 4, 0, REFUSED(10, 0));
+    store_byte("a byte of RO in set 1", m, 1, 20, 0, REFUSED(10, 0));
+    store_byte("set 3", m, 3, 0, 0, REFUSED(10, 0));
+    store_byte("set 2^32", m, (size_t)1 << 32, 0, 0, REFUSED(10, 0));
+    store_byte("offset 256", m, 0, 256, 0, REFUSED(10, 0));
+    store_byte("offset 2^32", m, 0, (size_t)1 << 32, 0, REFUSED(10, 0));
+    store_byte("the largest numbers", m, SIZE_MAX, SIZE_MAX, 0xFF, REFUSED(10, 0));
+    LENDING(VCS_BANK_SIZE - 1, store_byte("byte write, one byte short", m, 0, 0, 0, REFUSED(8, 0)));
+    LENDING(0, store_byte("byte write, no bank", m, 3, 4, 0, REFUSED(8, 0)));
     m.count = 16;
-    store_byte("9 before 8", m, 783, 0, 0, 0, REFUSED(9, 0));
+    LENDING(VCS_BANK_SIZE - 1, store_byte("9 before 8", m, 0, 0, 0, REFUSED(9, 0)));
     m.count = 4;
     m.ro_length = 6;
-    store_byte("byte write, a bad string", m, 784, 0, 0, 0, REFUSED(1, 4));
-    store_byte("1 before 10", m, 784, 3, 4, 0, REFUSED(1, 4));
+    store_byte("byte write, a bad string", m, 0, 0, 0, REFUSED(1, 4));
+    store_byte("1 before 10", m, 3, 4, 0, REFUSED(1, 4));
     m = (map)THE_SETTINGS;
     fill(0x00);
     wanted[1] = 0xFF;
-    store_byte("03h takes 3", m, 784, 0, 1, 0xFF, YES);
-    fetch("03h, lane 4", m, 784, 0, 1, 0, 4, NUMBER(3));
-    wanted[256 + 13] = 0xCA;
-    store_byte("07h takes a reserved code and one not in its mask", m, 784, 1, 13, 0xCA, YES);
-    fetch("07h, post-cursor, lane 1", m, 784, 1, 4, 1, 1, NUMBER(10));
-    fetch("07h, post-cursor, lane 2", m, 784, 1, 4, 1, 2, NUMBER(12));
+    store_byte("03h takes 3", m, 0, 1, 0xFF, YES);
+    fetch("03h, lane 4", m, 0, 1, 0, 4, NUMBER(3));
+    wanted[SET_1 + 13] = 0xCA;
+    store_byte("07h takes a reserved code and one not in its mask", m, 1, 13, 0xCA, YES);
+    fetch("07h, post-cursor, lane 1", m, 1, 4, 1, 1, NUMBER(10));
+    fetch("07h, post-cursor, lane 2", m, 1, 4, 1, 2, NUMBER(12));
     m = (map)THE_GAPS;
     fill(0xFF);
     wanted[255] = 0;
-    store_byte("offset 255, set 0", m, 784, 0, 255, 0xFF, YES);
-    wanted[256 + 255] = 0;
-    store_byte("offset 255, set 1", m, 784, 1, 255, 0x80, YES);
-    store_byte("offset 256 of 256", m, 784, 0, 256, 0, REFUSED(10, 0));
-    store_byte("no string", (map){15, NONE, NONE}, 784, 0, 0, 0, REFUSED(10, 0));
+    store_byte("offset 255, set 0", m, 0, 255, 0xFF, YES);
+    wanted[SET_1 + 255] = 0;
+    store_byte("offset 255, set 1", m, 1, 255, 0x80, YES);
+    store_byte("offset 256 of 256", m, 0, 256, 0, REFUSED(10, 0));
+    store_byte("no string", (map){15, NONE, NONE}, 0, 0, 0, REFUSED(10, 0));
 }
 
 static void byte_reads(void)
 {
     map m = THE_MAP;
     fill(0xFF);
-    fetch_byte("02h, all ones", m, 784, 0, 0, NUMBER(255));
-    fetch_byte("a gap shows 0, set 0", m, 784, 0, 1, NUMBER(0));
-    fetch_byte("a gap shows 0, set 2", m, 785, 2, 2, NUMBER(0));
-    fetch_byte("surplus of 12h shows 0", m, 784, 2, 28, NUMBER(0));
-    put(256 + 3, 0x3C);
-    fetch_byte("05h, set 1", m, 784, 1, 3, NUMBER(0x3C));
-    fetch_byte("05h, set 0", m, 784, 0, 3, NUMBER(255));
-    put(512 + 3, 0x81);
-    fetch_byte("05h, active", m, 784, 2, 3, NUMBER(0x81));
-    put(512 + 20, 0xF2);
-    fetch_byte("12h as an unsigned pattern", m, 784, 2, 20, NUMBER(242));
-    put(512 + 19, 0x80);
-    fetch_byte("P7, as an unsigned pattern", m, 784, 2, 19, NUMBER(128));
-    fetch_byte("the active length", m, 784, 2, 29, REFUSED(10, 0));
-    fetch_byte("a byte of RO in set 0", m, 784, 0, 4, REFUSED(10, 0));
-    fetch_byte("a byte of RO in set 1", m, 784, 1, 20, REFUSED(10, 0));
-    fetch_byte("set 3", m, 784, 3, 0, REFUSED(10, 0));
-    fetch_byte("offset 257", m, 784, 1, 257, REFUSED(10, 0));
-    fetch_byte("the largest numbers", m, 784, SIZE_MAX, SIZE_MAX, REFUSED(10, 0));
-    fetch_byte("byte read, 783 bytes", m, 783, 0, 0, REFUSED(8, 0));
-    fetch_byte("byte read, no bank", m, 0, 3, 0, REFUSED(8, 0));
+    fetch_byte("02h, all ones", m, 0, 0, NUMBER(255));
+    fetch_byte("a gap shows 0, set 0", m, 0, 1, NUMBER(0));
+    LENDING(VCS_BANK_SIZE + 1, fetch_byte("a gap shows 0, set 2", m, 2, 2, NUMBER(0)));
+    fetch_byte("surplus of 12h shows 0", m, 2, 28, NUMBER(0));
+    put(SET_1 + 3, 0x3C);
+    fetch_byte("05h, set 1", m, 1, 3, NUMBER(0x3C));
+    fetch_byte("05h, set 0", m, 0, 3, NUMBER(255));
+    put(ACTIVE + 3, 0x81);
+    fetch_byte("05h, active", m, 2, 3, NUMBER(0x81));
+    put(ACTIVE + 20, 0xF2);
+    fetch_byte("12h as an unsigned pattern", m, 2, 20, NUMBER(242));
+    put(ACTIVE + 19, 0x80);
+    fetch_byte("P7, as an unsigned pattern", m, 2, 19, NUMBER(128));
+    fetch_byte("the active length", m, 2, 29, REFUSED(10, 0));
+    fetch_byte("a byte of RO in set 0", m, 0, 4, REFUSED(10, 0));
+    fetch_byte("a byte of RO in set 1", m, 1, 20, REFUSED(10, 0));
+    fetch_byte("set 3", m, 3, 0, REFUSED(10, 0));
+    fetch_byte("offset 257", m, 1, 257, REFUSED(10, 0));
+    fetch_byte("the largest numbers", m, SIZE_MAX, SIZE_MAX, REFUSED(10, 0));
+    LENDING(VCS_BANK_SIZE - 1, fetch_byte("byte read, one byte short", m, 0, 0, REFUSED(8, 0)));
+    LENDING(0, fetch_byte("byte read, no bank", m, 3, 0, REFUSED(8, 0)));
     m.count = 0;
-    fetch_byte("9 before 8", m, 783, 0, 0, REFUSED(9, 0));
+    LENDING(VCS_BANK_SIZE - 1, fetch_byte("9 before 8", m, 0, 0, REFUSED(9, 0)));
     m.count = 4;
     m.ro_length = 6;
-    fetch_byte("byte read, a bad string", m, 784, 0, 0, REFUSED(1, 4));
+    fetch_byte("byte read, a bad string", m, 0, 0, REFUSED(1, 4));
     m = (map)THE_SETTINGS;
     put(3, 0xED);
-    fetch_byte("two lanes of 04h", m, 784, 0, 3, NUMBER(0xED));
+    fetch_byte("two lanes of 04h", m, 0, 3, NUMBER(0xED));
     m = (map)THE_GAPS;
-    fetch_byte("offset 255", m, 784, 2, 255, NUMBER(0));
-    fetch_byte("offset 256 of 256", m, 784, 2, 256, REFUSED(10, 0));
+    fetch_byte("offset 255", m, 2, 255, NUMBER(0));
+    fetch_byte("offset 256 of 256", m, 2, 256, REFUSED(10, 0));
     m = (map){4, BYTES(0x00, 0x04, 0x00, 0xF8, 0x0F, 0x05, 0x00, 0x08, 0x00), NONE};
-    put(512 + 255, 0x5A);
-    fetch_byte("the last byte of the active set", m, 784, 2, 255, NUMBER(0x5A));
+    put(ACTIVE + 255, 0x5A);
+    fetch_byte("the last byte of the active set", m, 2, 255, NUMBER(0x5A));
 }
 
 /* 02h for AppSel 1 to 4; 03h at offset 1 for 1 and 2, with a mask bit above the count; 04h at 3 for 1, 2 and 4 (P1), with
@@ -715,7 +723,7 @@ static void byte_reads(void)
 static void put_apps(size_t set, uint8_t app)
 {
     for (size_t lane = 1; lane <= 8; lane++) {
-        put(768 + 8 * set + lane - 1, app);
+        put(VCS_APP_SEL_AT(set, lane), app);
     }
 }
 
@@ -723,99 +731,99 @@ static void applies(void)
 {
     map m = THE_PLAN;
     fill(0xFF);
-    memset(wanted, 0, 784);
-    fresh("the plan's map", m, 784, NUMBERS(0, 0, 3, 1, 7, 15));
-    apply("no AppSel", m, 784, 0, 0x04, REFUSED(13, 3));
+    memset(wanted, 0, VCS_BANK_SIZE);
+    fresh("the plan's map", m, NUMBERS(0, 0, 3, 1, 7, 15));
+    apply("no AppSel", m, 0, 0x04, REFUSED(13, 3));
     wanted[0] = 0x04;
-    store("02h, lane 3", m, 784, 0, 0, 0, 3, 1, YES);
+    store("02h, lane 3", m, 0, 0, 0, 3, 1, YES);
     wanted[1] = 0x20;
-    store("03h, lane 3", m, 784, 0, 1, 0, 3, 2, YES);
+    store("03h, lane 3", m, 0, 1, 0, 3, 2, YES);
     wanted[4] = 0x0C;
-    store("04h, lane 3", m, 784, 0, 2, 0, 3, 12, YES);
-    wanted[770] = 4;
-    choose("AppSel 4, lane 3", m, 784, 0, 3, 4, YES);
-    wanted[512] = 0x04;
-    wanted[512 + 4] = 0x0C;
-    apply("AppSel 4, lane 3", m, 784, 0, 0x04, YES);
-    fetch("02h, applied", m, 784, 2, 0, 0, 3, NUMBER(1));
-    fetch("03h, not for AppSel 4", m, 784, 2, 1, 0, 3, NUMBER(0));
-    fetch("04h, applied", m, 784, 2, 2, 0, 3, NUMBER(12));
-    wanted[770] = 2;
-    choose("AppSel 2, lane 3", m, 784, 0, 3, 2, YES);
-    wanted[512 + 1] = 0x20;
-    apply("AppSel 2, lane 3", m, 785, 0, 0x04, YES);
-    fetch("03h, applied", m, 784, 2, 1, 0, 3, NUMBER(2));
+    store("04h, lane 3", m, 0, 2, 0, 3, 12, YES);
+    wanted[VCS_APP_SEL_AT(0, 3)] = 4;
+    choose("AppSel 4, lane 3", m, 0, 3, 4, YES);
+    wanted[ACTIVE] = 0x04;
+    wanted[ACTIVE + 4] = 0x0C;
+    apply("AppSel 4, lane 3", m, 0, 0x04, YES);
+    fetch("02h, applied", m, 2, 0, 0, 3, NUMBER(1));
+    fetch("03h, not for AppSel 4", m, 2, 1, 0, 3, NUMBER(0));
+    fetch("04h, applied", m, 2, 2, 0, 3, NUMBER(12));
+    wanted[VCS_APP_SEL_AT(0, 3)] = 2;
+    choose("AppSel 2, lane 3", m, 0, 3, 2, YES);
+    wanted[ACTIVE + 1] = 0x20;
+    LENDING(VCS_BANK_SIZE + 1, apply("AppSel 2, lane 3", m, 0, 0x04, YES));
+    fetch("03h, applied", m, 2, 1, 0, 3, NUMBER(2));
 
     fill(0xFF);
-    put(780, 1);
-    put(256, 0x00);
-    put(256 + 2, 0xFE);
-    put(256 + 5, 0xF0);
-    wanted[512] = 0xEF;
-    wanted[512 + 2] = 0xFE;
-    wanted[512 + 5] = 0xF0;
-    apply("set 1, lane 5: the other lanes and 12h are kept", m, 784, 1, 0x10, YES);
+    put(VCS_APP_SEL_AT(1, 5), 1);
+    put(SET_1, 0x00);
+    put(SET_1 + 2, 0xFE);
+    put(SET_1 + 5, 0xF0);
+    wanted[ACTIVE] = 0xEF;
+    wanted[ACTIVE + 2] = 0xFE;
+    wanted[ACTIVE + 5] = 0xF0;
+    apply("set 1, lane 5: the other lanes and 12h are kept", m, 1, 0x10, YES);
 
     fill(0x00);
     put_apps(1, 1);
     static const uint8_t staged[7] = {0xA5, 0x99, 0x66, 0xC0, 0x12, 0x34, 0x56};
     for (size_t i = 0; i < sizeof staged; i++) {
-        put(256 + i, staged[i]);
+        put(SET_1 + i, staged[i]);
     }
-    memcpy(wanted + 512, staged, sizeof staged);
-    apply("all lanes", m, 784, 1, 0xFF, YES);
+    memcpy(wanted + ACTIVE, staged, sizeof staged);
+    apply("all lanes", m, 1, 0xFF, YES);
 
     fill(0xFF);
-    apply("an empty mask", m, 784, 0, 0, YES);
-    apply("an empty mask on set 2", m, 784, 2, 0, REFUSED(11, 0));
-    apply("set 2", m, 784, 2, 0xFF, REFUSED(11, 0));
-    apply("set 3", m, 784, 3, 0xFF, REFUSED(10, 0));
-    apply("an empty mask on set 3", m, 784, 3, 0, REFUSED(10, 0));
-    apply("set 2^32", m, 784, (size_t)1 << 32, 0, REFUSED(10, 0));
-    apply("the largest set", m, 784, SIZE_MAX, 0xFF, REFUSED(10, 0));
-    apply("AppSel 255, lanes 2 and 8", m, 784, 1, 0x82, REFUSED(13, 2));
-    put(775, 5);
-    apply("AppSel 5 of 4, with its bit in a mask", m, 784, 0, 0x80, REFUSED(13, 8));
-    put(775, 0);
-    apply("AppSel 0", m, 784, 0, 0x80, REFUSED(13, 8));
-    apply("apply, 783 bytes", m, 783, 0, 0, REFUSED(8, 0));
-    apply("apply, no bank", m, 0, 3, 0xFF, REFUSED(8, 0));
+    apply("an empty mask", m, 0, 0, YES);
+    apply("an empty mask on set 2", m, 2, 0, REFUSED(11, 0));
+    apply("set 2", m, 2, 0xFF, REFUSED(11, 0));
+    apply("set 3", m, 3, 0xFF, REFUSED(10, 0));
+    apply("an empty mask on set 3", m, 3, 0, REFUSED(10, 0));
+    apply("set 2^32", m, (size_t)1 << 32, 0, REFUSED(10, 0));
+    apply("the largest set", m, SIZE_MAX, 0xFF, REFUSED(10, 0));
+    apply("AppSel 255, lanes 2 and 8", m, 1, 0x82, REFUSED(13, 2));
+    put(VCS_APP_SEL_AT(0, 8), 5);
+    apply("AppSel 5 of 4, with its bit in a mask", m, 0, 0x80, REFUSED(13, 8));
+    put(VCS_APP_SEL_AT(0, 8), 0);
+    apply("AppSel 0", m, 0, 0x80, REFUSED(13, 8));
+    LENDING(VCS_BANK_SIZE - 1, apply("apply, one byte short", m, 0, 0, REFUSED(8, 0)));
+    LENDING(0, apply("apply, no bank", m, 3, 0xFF, REFUSED(8, 0)));
     m.count = 16;
-    apply("9 before 8", m, 783, 0, 0, REFUSED(9, 0));
+    LENDING(VCS_BANK_SIZE - 1, apply("9 before 8", m, 0, 0, REFUSED(9, 0)));
     m.count = 4;
     m.ro_length = 6;
-    apply("apply, a bad string", m, 784, 0, 0, REFUSED(1, 3));
-    apply("1 before 10", m, 784, 3, 0xFF, REFUSED(1, 3));
+    apply("apply, a bad string", m, 0, 0, REFUSED(1, 3));
+    apply("1 before 10", m, 3, 0xFF, REFUSED(1, 3));
 
     m = (map)THE_PLAN;
     fill(0x00);
     put_apps(0, 1);
     put(1, 0x03);
-    apply("03h holds 3 in lane 1", m, 784, 0, 0xFF, REFUSED(14, 1));
-    apply("lane 1 not chosen", m, 784, 0, 0xFE, YES);
+    apply("03h holds 3 in lane 1", m, 0, 0xFF, REFUSED(14, 1));
+    apply("lane 1 not chosen", m, 0, 0xFE, YES);
     put(6, 0xD0);
-    apply("04h holds 13 in lane 8", m, 784, 0, 0xFE, REFUSED(14, 8));
-    apply("the lowest lane of two", m, 784, 0, 0xFF, REFUSED(14, 1));
-    put(772, 0);
-    apply("13 in lane 5 before 14 in lane 1", m, 784, 0, 0xFF, REFUSED(13, 5));
-    put(768, 4);
-    apply("03h is not to be copied", m, 784, 0, 0x01, YES);
-    apply("14 needs a field to be copied", m, 784, 0, 0x81, REFUSED(14, 8));
-    put(768, 0);
-    apply("the lowest lane of two AppSels", m, 784, 0, 0x91, REFUSED(13, 1));
+    apply("04h holds 13 in lane 8", m, 0, 0xFE, REFUSED(14, 8));
+    apply("the lowest lane of two", m, 0, 0xFF, REFUSED(14, 1));
+    put(VCS_APP_SEL_AT(0, 5), 0);
+    apply("13 in lane 5 before 14 in lane 1", m, 0, 0xFF, REFUSED(13, 5));
+    put(VCS_APP_SEL_AT(0, 1), 4);
+    apply("03h is not to be copied", m, 0, 0x01, YES);
+    apply("14 needs a field to be copied", m, 0, 0x81, REFUSED(14, 8));
+    put(VCS_APP_SEL_AT(0, 1), 0);
+    apply("the lowest lane of two AppSels", m, 0, 0x91, REFUSED(13, 1));
 
     m = (map){9, BYTES(0x02, 0x06, 0x01, 0x00, 0x01, 0x00), NONE};
     fill(0x00);
     put(0, 0xC0);
-    put(774, 8);
-    put(775, 9);
-    wanted[512] = 0x80;
-    apply("AppSel 9 of 9, mask 0100h", m, 784, 0, 0xC0, YES);
-    put(775, 10);
-    apply("AppSel 10 of 9", m, 784, 0, 0xC0, REFUSED(13, 8));
-    apply("no string, AppSel above the count", (map){1, NONE, NONE}, 784, 0, 0x80, REFUSED(13, 8));
-    put(775, 1);
-    apply("no string", (map){1, NONE, NONE}, 784, 0, 0x80, YES);
+    put(VCS_APP_SEL_AT(0, 7), 8);
+    put(VCS_APP_SEL_AT(0, 8), 9);
+    wanted[ACTIVE] = 0x80;
+    apply("AppSel 9 of 9, mask 0100h", m, 0, 0xC0, YES);
+    put(VCS_APP_SEL_AT(0, 8), 10);
+    apply("AppSel 10 of 9", m, 0, 0xC0, REFUSED(13, 8));
+    apply("no string, AppSel above the count", (map){1, NONE, NONE}, 0, 0x80, REFUSED(13, 8));
+    put(VCS_APP_SEL_AT(0, 8), 1);
+    apply("no string", (map){1, NONE, NONE}, 0, 0x80, YES);
 }
 
 /* A call of a kind; every other member is as large as can be, so what a kind ignores would show. */
@@ -832,10 +840,10 @@ static void performs(void)
     call.set = 0;
     call.lane = 3;
     call.app = 4;
-    wanted[770] = 4;
-    perform("select", m, 784, call, YES);
+    wanted[VCS_APP_SEL_AT(0, 3)] = 4;
+    perform("select", m, call, YES);
     call.app = 5;
-    perform("select, app 5 of 4", m, 784, call, REFUSED(12, 0));
+    perform("select, app 5 of 4", m, call, REFUSED(12, 0));
 
     call = of_kind(1);
     call.set = 0;
@@ -844,75 +852,75 @@ static void performs(void)
     call.lane = 3;
     call.value = 12;
     wanted[4] = 0x0C;
-    perform("write", m, 784, call, YES);
+    perform("write", m, call, YES);
     call.value = -1;
-    perform("write, -1", m, 784, call, REFUSED(12, 0));
+    perform("write, -1", m, call, REFUSED(12, 0));
     call.value = 12 + ((int64_t)1 << 32);
-    perform("write, 2^32 + 12", m, 784, call, REFUSED(12, 0));
+    perform("write, 2^32 + 12", m, call, REFUSED(12, 0));
 
     call = of_kind(2);
     call.set = 0;
     call.entry = 2;
     call.part = 0;
     call.lane = 3;
-    perform("read", m, 784, call, NUMBER(12));
+    perform("read", m, call, NUMBER(12));
     call.set = 2;
-    perform("read, before apply", m, 784, call, NUMBER(0));
+    perform("read, before apply", m, call, NUMBER(0));
 
     call = of_kind(6);
     call.set = 0;
     call.lanes = 0x04;
-    wanted[512 + 4] = 0x0C;
-    perform("apply", m, 784, call, YES);
+    wanted[ACTIVE + 4] = 0x0C;
+    perform("apply", m, call, YES);
     call.lanes = 0x0C;
-    perform("apply, no AppSel in lane 4", m, 784, call, REFUSED(13, 4));
+    perform("apply, no AppSel in lane 4", m, call, REFUSED(13, 4));
     call.set = 2;
-    perform("apply on set 2", m, 784, call, REFUSED(11, 0));
+    perform("apply on set 2", m, call, REFUSED(11, 0));
     call.set = 3;
-    perform("apply on set 3", m, 784, call, REFUSED(10, 0));
+    perform("apply on set 3", m, call, REFUSED(10, 0));
 
     call = of_kind(3);
     call.set = 0;
     call.offset = 4;
     call.byte = 0xFD;
     wanted[4] = 0xFD;
-    perform("byte write", m, 784, call, YES);
+    perform("byte write", m, call, YES);
 
     call = of_kind(4);
     call.set = 0;
     call.offset = 4;
-    perform("byte read", m, 784, call, NUMBER(0xFD));
+    perform("byte read", m, call, NUMBER(0xFD));
     call.offset = 7;
-    perform("byte read, the staged length", m, 784, call, REFUSED(10, 0));
+    perform("byte read, the staged length", m, call, REFUSED(10, 0));
 
     call = of_kind(6);
     call.set = 0;
     call.lanes = 0x04;
-    perform("apply, 04h holds 13 in lane 3", m, 784, call, REFUSED(14, 3));
+    perform("apply, 04h holds 13 in lane 3", m, call, REFUSED(14, 3));
 
     call = of_kind(5);
     call.entry = 3;
     call.part = 0;
     call.lane = 1;
     call.value = -14;
-    wanted[512 + 7] = 0xF2;
-    perform("publish", m, 784, call, YES);
+    wanted[ACTIVE + 7] = 0xF2;
+    perform("publish", m, call, YES);
     call.entry = 0;
-    perform("publish, an RW entry", m, 784, call, REFUSED(11, 0));
+    perform("publish, an RW entry", m, call, REFUSED(11, 0));
 
     call = (vcs_call){7, 0, 0, 0, 1, 0, 1, 1, 1, 0};
-    perform("kind 7", m, 784, call, REFUSED(10, 0));
+    perform("kind 7", m, call, REFUSED(10, 0));
     call.kind = 256;
-    perform("kind 256", m, 784, call, REFUSED(10, 0));
+    perform("kind 256", m, call, REFUSED(10, 0));
     call.kind = ((size_t)1 << 32) + 2;
-    perform("kind 2^32 + 2", m, 784, call, REFUSED(10, 0));
-    perform("the largest numbers", m, 784, of_kind(SIZE_MAX), REFUSED(10, 0));
-    perform("8 before 10: kind 7", m, 783, of_kind(7), REFUSED(8, 0));
+    perform("kind 2^32 + 2", m, call, REFUSED(10, 0));
+    perform("the largest numbers", m, of_kind(SIZE_MAX), REFUSED(10, 0));
+    LENDING(VCS_BANK_SIZE - 1, perform("8 before 10: kind 7", m, of_kind(7), REFUSED(8, 0)));
     m.count = 0;
-    perform("9 before 8: kind 7", m, 783, of_kind(7), REFUSED(9, 0));
+    LENDING(VCS_BANK_SIZE - 1, perform("9 before 8: kind 7", m, of_kind(7), REFUSED(9, 0)));
     m.count = 4;
     m.ro_length = 6;
-    perform("1 before 10: kind 7", m, 784, of_kind(7), REFUSED(1, 3));
+    perform("1 before 10: kind 7", m, of_kind(7), REFUSED(1, 3));
 }
 
 /* 02h, then 12h at offsets 1, 9, 17 and 25, of steps 0 to 3. */
@@ -925,37 +933,37 @@ static void weights(void)
 {
     map m = THE_STEPS;
     fill(0x01);
-    put(512 + 1, 0xF2);
-    weigh("P6, step 0", m, 784, 1, 1, NUMBER(-140));
-    put(512 + 9 + 7, 0x80);
-    weigh("step 1, lane 8, -128", m, 784, 2, 8, NUMBER(-2560));
-    put(512 + 17 + 2, 0xFD);
-    weigh("step 2, lane 3, -3", m, 785, 3, 3, NUMBER(-75));
-    put(512 + 25, 0x80);
-    weigh("step 3, -128", m, 784, 4, 1, NUMBER(-5120));
-    weigh("step 3, lane 2, 1", m, 784, 4, 2, NUMBER(40));
-    put(512 + 17 + 7, 0x7F);
-    weigh("step 2, lane 8, 127", m, 784, 3, 8, NUMBER(3175));
-    put(512 + 1 + 1, 0x00);
-    weigh("step 0, lane 2, 0", m, 784, 1, 2, NUMBER(0));
-    weigh("weight of 02h", m, 784, 0, 1, REFUSED(10, 0));
-    weigh("entry 5", m, 784, 5, 1, REFUSED(10, 0));
-    weigh("lane 0", m, 784, 1, 0, REFUSED(10, 0));
-    weigh("lane 9", m, 784, 1, 9, REFUSED(10, 0));
-    weigh("lane 2^32 + 1", m, 784, 1, ((size_t)1 << 32) + 1, REFUSED(10, 0));
-    weigh("entry 2^32 + 1", m, 784, ((size_t)1 << 32) + 1, 1, REFUSED(10, 0));
-    weigh("the largest numbers", m, 784, SIZE_MAX, SIZE_MAX, REFUSED(10, 0));
-    weigh("weight, 783 bytes", m, 783, 1, 1, REFUSED(8, 0));
-    weigh("weight, no bank", m, 0, 0, 0, REFUSED(8, 0));
+    put(ACTIVE + 1, 0xF2);
+    weigh("P6, step 0", m, 1, 1, NUMBER(-140));
+    put(ACTIVE + 9 + 7, 0x80);
+    weigh("step 1, lane 8, -128", m, 2, 8, NUMBER(-2560));
+    put(ACTIVE + 17 + 2, 0xFD);
+    LENDING(VCS_BANK_SIZE + 1, weigh("step 2, lane 3, -3", m, 3, 3, NUMBER(-75)));
+    put(ACTIVE + 25, 0x80);
+    weigh("step 3, -128", m, 4, 1, NUMBER(-5120));
+    weigh("step 3, lane 2, 1", m, 4, 2, NUMBER(40));
+    put(ACTIVE + 17 + 7, 0x7F);
+    weigh("step 2, lane 8, 127", m, 3, 8, NUMBER(3175));
+    put(ACTIVE + 1 + 1, 0x00);
+    weigh("step 0, lane 2, 0", m, 1, 2, NUMBER(0));
+    weigh("weight of 02h", m, 0, 1, REFUSED(10, 0));
+    weigh("entry 5", m, 5, 1, REFUSED(10, 0));
+    weigh("lane 0", m, 1, 0, REFUSED(10, 0));
+    weigh("lane 9", m, 1, 9, REFUSED(10, 0));
+    weigh("lane 2^32 + 1", m, 1, ((size_t)1 << 32) + 1, REFUSED(10, 0));
+    weigh("entry 2^32 + 1", m, ((size_t)1 << 32) + 1, 1, REFUSED(10, 0));
+    weigh("the largest numbers", m, SIZE_MAX, SIZE_MAX, REFUSED(10, 0));
+    LENDING(VCS_BANK_SIZE - 1, weigh("weight, one byte short", m, 1, 1, REFUSED(8, 0)));
+    LENDING(0, weigh("weight, no bank", m, 0, 0, REFUSED(8, 0)));
     m.count = 0;
-    weigh("9 before 8", m, 783, 1, 1, REFUSED(9, 0));
+    LENDING(VCS_BANK_SIZE - 1, weigh("9 before 8", m, 1, 1, REFUSED(9, 0)));
     m = (map)THE_MAP;
-    weigh("weight of 00h", m, 784, 1, 1, REFUSED(10, 0));
-    weigh("weight of 11h", m, 784, 3, 1, REFUSED(10, 0));
+    weigh("weight of 00h", m, 1, 1, REFUSED(10, 0));
+    weigh("weight of 11h", m, 3, 1, REFUSED(10, 0));
     m.ro_length = 6;
-    weigh("weight, a bad string", m, 784, 0, 1, REFUSED(1, 4));
-    put(512, 0xFF);
-    weigh("step in byte 7 with A 2", (map){9, NONE, BYTES(0x12, 0x08, 0x00, 0x00, 0x08, 0x00, 0x01, 0x03)}, 784, 0, 1,
+    weigh("weight, a bad string", m, 0, 1, REFUSED(1, 4));
+    put(ACTIVE, 0xFF);
+    weigh("step in byte 7 with A 2", (map){9, NONE, BYTES(0x12, 0x08, 0x00, 0x00, 0x08, 0x00, 0x01, 0x03)}, 0, 1,
           NUMBER(-40));
 }
 

@@ -10,7 +10,7 @@ use crate::any_map;
 use crate::calls::bank::{APPLY, BYTE_READ, BYTE_WRITE, FRESH, PERFORM, PUBLISH, READ, SELECT, WEIGHT, WRITE};
 use crate::calls::{entry, load, owner, place, take};
 use crate::case::Case;
-use crate::engine::{self, FlatCall, Located};
+use crate::engine::{self, app_sels, FlatCall, BANK_SIZE};
 use crate::fixed::hex;
 use crate::peer;
 use crate::random::Random;
@@ -113,7 +113,7 @@ impl Subject {
         let map = Flat { count: 4, strings: [hex(named.rw), hex(named.ro)] };
         let case = map.case();
         let args = |set, (entry, value)| {
-            let offset = engine::place(case.count, case.rw, case.ro, set, entry, 0, LANE).byte;
+            let offset = engine::place(case.count, case.rw, case.ro, set, entry, 0, LANE).offset;
             let position = engine::entry(case.count, case.rw, case.ro, entry).start;
             let call =
                 FlatCall { kind: 1, set, entry, part: 0, lane: LANE, offset, app: APP, value, byte: 0x21, lanes: 0xFF };
@@ -128,7 +128,7 @@ impl Subject {
 /// A bank with accepted numbers in all fields of staged set 0 and of the active set, and the application in each lane.
 fn planned(case: &Case) -> Vec<u8> {
     let Case { count, rw, ro } = *case;
-    let mut bank = vec![0; 784];
+    let mut bank = vec![0; BANK_SIZE];
     let loaded = engine::load(count, rw, ro);
     assert_eq!(loaded.refusal, 0, "a timed map is accepted: {case}");
     for lane in 1..=8 {
@@ -156,20 +156,26 @@ fn varied(subjects: &[Subject], seed: u64) -> Input {
         1 => valid::valid(&random).flat(),
         _ => subject.map.clone(),
     };
-    let length = random.pick(&[784, 784, 784, 784, 784, 784, 800, 1024, 783, 0]);
+    let length = match random.below(10) {
+        0..=5 => BANK_SIZE,
+        6 => BANK_SIZE + 16,
+        7 => BANK_SIZE + 240,
+        8 => BANK_SIZE - 1,
+        _ => 0,
+    };
     let mut bank = match random.below(4) {
         0 | 1 => subject.bank.clone(),
-        2 => vec![0; 784],
-        _ => random.bytes(784),
+        2 => vec![0; BANK_SIZE],
+        _ => random.bytes(BANK_SIZE),
     };
     if random.once_in(2) {
         // One byte about the fields of a staged set: apply may answer 14.
         bank[random.below(64)] = random.byte();
     }
     bank.resize(length, 0xA5);
-    if length >= 784 && random.once_in(2) {
+    if length >= BANK_SIZE && random.once_in(2) {
         let least = usize::from(!random.once_in(4));
-        bank[768..784].fill_with(|| random.within(least, map.count.clamp(1, 15)) as u8);
+        app_sels(&mut bank).fill_with(|| random.within(least, map.count.clamp(1, 15)) as u8);
     }
     let args = varied_args(&random, &map.case());
     Input { map, bank, args }
@@ -193,12 +199,6 @@ fn varied_args(random: &Random, case: &Case) -> Args {
         lanes: random.pick(&[0, 0xFF, 1 << random.below(8), random.byte()]),
     };
     Args { call, bit: random.about(8), position: random.about(case.rw.len() + 1) }
-}
-
-impl Answer for Located {
-    fn refusal(&self) -> usize {
-        self.refusal
-    }
 }
 
 /// A call's times: for each map, engine and peer.
@@ -265,7 +265,7 @@ impl Bench {
         }
         let seen = self.varied.iter().map(|input| agreed(&input.map, &input.bank, &input.args));
         let seen: BTreeSet<usize> = seen.collect();
-        assert_eq!(seen, row.numbers.iter().copied().collect(), "{name}: the numbers that varied inputs reach");
+        assert_eq!(seen, row.numbers.iter().collect(), "{name}: the numbers that varied inputs reach");
     }
 
     fn print(&self) {

@@ -11,6 +11,7 @@ mod peer;
 mod program;
 mod random;
 mod reached;
+mod refusals;
 mod report;
 mod shape;
 mod strings;
@@ -48,6 +49,7 @@ fn main() -> ExitCode {
 }
 
 fn compare() -> bool {
+    engine::check_layout();
     let mut calls = calls::CALLS.to_vec();
     calls.extend(lists::rows());
     if program::exists() {

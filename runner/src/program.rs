@@ -7,14 +7,16 @@ use std::process::{Command, Stdio};
 use std::time::Duration;
 
 use crate::any_map;
+use crate::calls::load;
 use crate::case::Hex;
 use crate::fixed;
 use crate::random::Random;
+use crate::refusals::{FLOOR, LOAD};
 use crate::report::{Answer, Report};
 use crate::strings::{Flat, RO, RW};
 use crate::tally::Row;
 
-pub static CALL: Row = Row { name: "map program", numbers: &[0, 1, 2, 3, 4, 5, 6, 7, 9] };
+pub static CALL: Row = Row::new("map program", LOAD);
 
 const PROGRAM: &str = concat!(env!("CARGO_MANIFEST_DIR"), "/../target/bin/map");
 
@@ -22,7 +24,7 @@ const PROGRAM: &str = concat!(env!("CARGO_MANIFEST_DIR"), "/../target/bin/map");
 const MAPS: u64 = 20_000;
 
 /// Further runs for each number that the program can answer.
-const RUNS: usize = 60;
+const RUNS: usize = FLOOR as usize + 10;
 
 /// What the program writes.
 #[derive(PartialEq)]
@@ -57,12 +59,13 @@ pub fn compare(report: &mut Report) {
     }
     let random = Random::new(1);
     for run in 0..RUNS {
-        for number in 0..=7 {
-            let input = well_formed(&map_answering(&random, number));
+        for number in LOAD.iter() {
+            let input = match number {
+                9 => refused_9(&random, run),
+                _ => well_formed(&map_answering(&random, number)),
+            };
             compare_input(report, &input, run % 4 == 0, None);
         }
-        let input = refused_9(&random, run);
-        compare_input(report, &input, run % 4 == 0, None);
     }
 }
 
@@ -74,12 +77,11 @@ fn compare_input(report: &mut Report, input: &[u8], in_pieces: bool, known: Opti
 }
 
 /// A generated map whose load the second program answers with this number.
-fn map_answering(random: &Random, number: u32) -> Flat {
+fn map_answering(random: &Random, number: usize) -> Flat {
     loop {
         let map = any_map(random);
         let case = map.case();
-        let answer = second::load(case.count, case.rw, case.ro);
-        if answer.map_or_else(|refusal| refusal.number, |_| 0) == number {
+        if load::of_second(&case).refusal == number {
             return map;
         }
     }
@@ -97,7 +99,7 @@ fn well_formed(map: &Flat) -> Vec<u8> {
 
 /// Short, long, a size over 120 with and without its bytes, a count that isn't 1 to 15.
 fn refused_9(random: &Random, run: usize) -> Vec<u8> {
-    let mut map = map_answering(random, (run % 3) as u32);
+    let mut map = map_answering(random, run % 3);
     match run % 6 {
         0 => {
             let mut input = well_formed(&map);

@@ -1,31 +1,31 @@
 //! Counts by row and refusal number: a row is a call, or a kind of entry. 0 stands for an accepted call.
 
-/// How often each number that can occur must be seen.
-pub const FLOOR: u64 = 50;
+use crate::refusals::{Numbers, FLOOR, LAST};
 
-/// Columns 0 to 14 are document 01's numbers, the last one takes any other.
-const COLUMNS: usize = 16;
+/// Document 01's numbers; the last column takes any other.
+const COLUMNS: usize = LAST + 2;
 
-/// A row of a tally, and the numbers that can occur in it.
+/// A row of a tally, the numbers that can occur in it, and how often each of them must.
 pub struct Row {
     pub name: &'static str,
-    pub numbers: &'static [usize],
+    pub numbers: Numbers,
+    pub floor: u64,
+}
+
+impl Row {
+    pub const fn new(name: &'static str, numbers: Numbers) -> Row {
+        Row { name, numbers, floor: FLOOR }
+    }
 }
 
 pub struct Tally {
     heading: &'static str,
     rows: Vec<(&'static Row, [u64; COLUMNS])>,
-    required: Vec<(&'static Row, u64)>,
 }
 
 impl Tally {
     pub fn new(heading: &'static str, rows: &[&'static Row]) -> Tally {
-        Tally { heading, rows: rows.iter().map(|&row| (row, [0; COLUMNS])).collect(), required: Vec::new() }
-    }
-
-    /// Asks for more accepted calls of a row than the floor.
-    pub fn require(&mut self, row: &'static Row, least: u64) {
-        self.required.push((row, least));
+        Tally { heading, rows: rows.iter().map(|&row| (row, [0; COLUMNS])).collect() }
     }
 
     /// Counts a number in one of the rows that the tally was made with.
@@ -37,12 +37,12 @@ impl Tally {
 
     /// The counts; a dot where a number can't occur.
     pub fn print(&self) {
-        let used = |column: &usize| self.rows.iter().any(|(row, _)| row.numbers.contains(column));
+        let used = |&column: &usize| self.rows.iter().any(|(row, _)| row.numbers.has(column));
         let columns: Vec<usize> = (0..COLUMNS).filter(used).collect();
         let heads: String = columns.iter().map(|column| format!("{column:>8}")).collect();
         println!("{:<24}{heads}", self.heading);
         for (row, seen) in &self.rows {
-            let cell = |&column: &usize| match (row.numbers.contains(&column), seen[column]) {
+            let cell = |&column: &usize| match (row.numbers.has(column), seen[column]) {
                 (false, 0) => format!("{:>8}", "."),
                 (_, count) => format!("{count:>8}"),
             };
@@ -56,11 +56,9 @@ impl Tally {
         let mut faults = Vec::new();
         for (row, seen) in &self.rows {
             for (number, &count) in seen.iter().enumerate() {
-                let can_occur = row.numbers.contains(&number);
-                let required = self.required.iter().find(|(known, _)| number == 0 && known.name == row.name);
-                let least = required.map_or(FLOOR, |&(_, least)| least);
-                if can_occur && count < least {
-                    faults.push(format!("{}: {number} seen {count} times, below {least}", row.name));
+                let can_occur = row.numbers.has(number);
+                if can_occur && count < row.floor {
+                    faults.push(format!("{}: {number} seen {count} times, below {}", row.name, row.floor));
                 }
                 if !can_occur && count > 0 {
                     faults.push(format!("{}: {number} can't occur, seen {count} times", row.name));

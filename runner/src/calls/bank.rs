@@ -4,32 +4,30 @@ use std::fmt;
 
 use second::Table;
 
-use super::{load, reason};
+use super::load;
 use crate::case::{Case, Hex};
-use crate::engine::{self, Answered, FlatCall, Loaded};
+use crate::engine::{self, app_sel_at, app_sels, set_start, Answered, FlatCall, Loaded, BANK_SIZE};
 use crate::random::Random;
+use crate::refusals::{self, LISTS_TO_THE_END};
 use crate::report::{Answer, Report};
 use crate::tally::Row;
 
-pub static FRESH: Row = Row { name: "fresh", numbers: &[0, 1, 2, 3, 4, 5, 6, 7, 8, 9] };
-pub static SELECT: Row = Row { name: "select", numbers: &[0, 1, 2, 3, 4, 5, 6, 7, 8, 9, 10, 11, 12] };
-pub static WRITE: Row = Row { name: "write", numbers: &[0, 1, 2, 3, 4, 5, 6, 7, 8, 9, 10, 11, 12] };
-pub static READ: Row = Row { name: "read", numbers: &[0, 1, 2, 3, 4, 5, 6, 7, 8, 9, 10, 11] };
-pub static PUBLISH: Row = Row { name: "publish", numbers: &[0, 1, 2, 3, 4, 5, 6, 7, 8, 9, 10, 11, 12] };
-pub static BYTE_WRITE: Row = Row { name: "byte write", numbers: &[0, 1, 2, 3, 4, 5, 6, 7, 8, 9, 10, 11] };
-pub static BYTE_READ: Row = Row { name: "byte read", numbers: &[0, 1, 2, 3, 4, 5, 6, 7, 8, 9, 10] };
-pub static APPLY: Row = Row { name: "apply", numbers: &[0, 1, 2, 3, 4, 5, 6, 7, 8, 9, 10, 11, 13, 14] };
-pub static PERFORM: Row = Row { name: "perform", numbers: &[0, 1, 2, 3, 4, 5, 6, 7, 8, 9, 10, 11, 12, 13, 14] };
-pub static UNKNOWN: Row = Row { name: "perform: unknown kind", numbers: &[1, 2, 3, 4, 5, 6, 7, 8, 9, 10] };
-pub static WEIGHT: Row = Row { name: "weight", numbers: &[0, 1, 2, 3, 4, 5, 6, 7, 8, 9, 10] };
+pub static FRESH: Row = Row::new("fresh", refusals::FRESH);
+pub static SELECT: Row = Row::new("select", refusals::SELECT);
+pub static WRITE: Row = Row::new("write", refusals::WRITE);
+pub static READ: Row = Row::new("read", refusals::READ);
+pub static PUBLISH: Row = Row::new("publish", refusals::PUBLISH);
+pub static BYTE_WRITE: Row = Row::new("byte write", refusals::BYTE_WRITE);
+pub static BYTE_READ: Row = Row::new("byte read", refusals::BYTE_READ);
+pub static APPLY: Row = Row::new("apply", refusals::APPLY);
+pub static PERFORM: Row = Row::new("perform", refusals::PERFORM);
+pub static UNKNOWN: Row = Row::new("perform: unknown kind", refusals::UNKNOWN_KIND);
+pub static WEIGHT: Row = Row::new("weight", refusals::WEIGHT);
 
-/// The end of a list after a fresh, against the plain table: the bank, each number by read, each AppSel by apply.
-pub static END_BANK: Row = Row { name: "end: bank", numbers: &[0] };
-pub static END_READ: Row = Row { name: "end: read", numbers: &[0, 10, 11] };
-pub static END_APPLY: Row = Row { name: "end: apply", numbers: &[0, 13, 14] };
-
-/// The least length of a bank that is accepted.
-const LEAST: usize = 784;
+/// The end of a list after a fresh, against the plain table: the bank, twice, each number by read, each AppSel by apply.
+pub static END_BANK: Row = Row { floor: 2 * LISTS_TO_THE_END, ..Row::new("end: bank", refusals::ACCEPTED) };
+pub static END_READ: Row = Row::new("end: read", refusals::FIELD);
+pub static END_APPLY: Row = Row::new("end: apply", refusals::LANES);
 
 /// Bytes behind a lent bank, which no call may reach.
 const BEHIND: usize = 16;
@@ -46,17 +44,20 @@ impl Bank {
     /// Most often of the least length, in content clear, all ones or foreign.
     pub fn new(random: &Random) -> Bank {
         let length = match random.below(16) {
-            0 => random.pick(&[0, 0, 1, 512, 768, LEAST - 1, LEAST - 1, random.below(LEAST)]),
-            1 => LEAST + 1,
-            2 => random.pick(&[800, 1024, 1 << 16]),
-            _ => LEAST,
+            0 => {
+                let [active, apps] = [set_start(2), app_sel_at(0, 1)];
+                random.pick(&[0, 0, 1, active, apps, BANK_SIZE - 1, BANK_SIZE - 1, random.below(BANK_SIZE)])
+            }
+            1 => BANK_SIZE + 1,
+            2 => random.pick(&[BANK_SIZE + 16, BANK_SIZE + 240, 1 << 16]),
+            _ => BANK_SIZE,
         };
         let mut buffer = random.bytes(length + BEHIND);
         match random.below(4) {
             0 => buffer[..length].fill(0),
             1 => buffer[..length].fill(0xFF),
             // AppSels about the count
-            2 if length >= LEAST => buffer[768..LEAST].fill_with(|| random.below(20) as u8),
+            2 if length >= BANK_SIZE => app_sels(&mut buffer).fill_with(|| random.below(20) as u8),
             _ => {}
         }
         Bank { buffer, length, table: None }
@@ -64,7 +65,7 @@ impl Bank {
 
     /// Of the least length, all ones.
     pub fn ones() -> Bank {
-        Bank { buffer: vec![0xFF; LEAST + BEHIND], length: LEAST, table: None }
+        Bank { buffer: vec![0xFF; BANK_SIZE + BEHIND], length: BANK_SIZE, table: None }
     }
 
     pub fn lent(&self) -> &[u8] {
@@ -72,7 +73,7 @@ impl Bank {
     }
 
     pub fn accepted(&self) -> bool {
-        self.length >= LEAST
+        self.length >= BANK_SIZE
     }
 }
 
@@ -87,12 +88,6 @@ pub enum Call {
     Listed(second::Call),
     /// Perform with a kind that doesn't exist.
     Unknown(FlatCall),
-}
-
-impl Answer for Answered {
-    fn refusal(&self) -> usize {
-        self.refusal
-    }
 }
 
 /// What a call answers.
@@ -184,10 +179,7 @@ fn as_engine(answer: second::Answer) -> Answered {
     match answer {
         second::Answer::Yes => Answered::default(),
         second::Answer::Number(number) => Answered { number, ..Answered::default() },
-        second::Answer::Refused(refusal) => {
-            let (number, at) = reason(refusal);
-            Answered::refused(number, at)
-        }
+        second::Answer::Refused(refusal) => refusal.into(),
     }
 }
 
@@ -283,7 +275,7 @@ pub fn compare_end(report: &mut Report, case: &Case, bank: &Bank, entries: &[usi
 
 /// Compares every byte of a bank with the bank that shows the table.
 fn compare_bytes(report: &mut Report, case: &Case, lent: &[u8], table: &Table) {
-    let bank = |buffer| After { said: Said::Answered(Answered::default()), before: &[0; LEAST], buffer };
+    let bank = |buffer| After { said: Said::Answered(Answered::default()), before: &[0; BANK_SIZE], buffer };
     let shown = format_args!("{case} end of a list");
-    report.compare(&END_BANK, &shown, &bank(&lent[..LEAST]), &[("table", bank(&table.bank()))]);
+    report.compare(&END_BANK, &shown, &bank(&lent[..BANK_SIZE]), &[("table", bank(&table.bank()))]);
 }

@@ -1,14 +1,14 @@
 //! The entry call: where each entry stands, and the bytes that start and length name.
 
-use super::reason;
 use crate::case::{Case, Hex};
 use crate::engine::{self, Loaded, Located};
 use crate::peer;
+use crate::refusals;
 use crate::report::{Answer, Report};
 use crate::tally::Row;
 use std::fmt;
 
-pub static CALL: Row = Row { name: "entry", numbers: &[0, 1, 2, 3, 4, 5, 6, 7, 9, 10] };
+pub static CALL: Row = Row::new("entry", refusals::ENTRY);
 
 /// Entry numbers that no map has: at most 60 entries of 4 bytes fit.
 const FAR: [usize; 8] = [60, 61, 120, 255, 256, 1 << 16, 1 << 32, usize::MAX];
@@ -57,10 +57,7 @@ fn of_second<'a>(case: &Case<'a>, entries: &[second::EntryInfo], entry: usize) -
             };
             Part { located, bytes: Some(bytes) }
         }
-        Err(refusal) => {
-            let (number, at) = reason(refusal);
-            Part { located: Located::refused(number, at), bytes: Some(&[]) }
-        }
+        Err(refusal) => Part { located: refusal.into(), bytes: Some(&[]) },
     }
 }
 

@@ -1,19 +1,13 @@
 //! The load: engine, second program and peer on one map.
 
-use super::reason;
 use crate::case::Case;
 use crate::engine::{self, Loaded};
 use crate::peer;
-use crate::report::{Answer, Report};
+use crate::refusals;
+use crate::report::Report;
 use crate::tally::Row;
 
-pub static CALL: Row = Row { name: "load", numbers: &[0, 1, 2, 3, 4, 5, 6, 7, 9] };
-
-impl Answer for Loaded {
-    fn refusal(&self) -> usize {
-        self.refusal
-    }
-}
+pub static CALL: Row = Row::new("load", refusals::LOAD);
 
 /// The second program's answer of a load, as the engine gives it.
 pub fn as_engine(answer: Result<second::Loaded, second::Refusal>) -> Loaded {
@@ -26,10 +20,7 @@ pub fn as_engine(answer: Result<second::Loaded, second::Refusal>) -> Loaded {
             staged_length: loaded.staged_length,
             active_length: loaded.active_length,
         },
-        Err(refusal) => {
-            let (number, at) = reason(refusal);
-            Loaded::refused(number, at)
-        }
+        Err(refusal) => refusal.into(),
     }
 }
 

@@ -64,8 +64,3 @@ pub fn compare_all(report: &mut Report, case: &Case, known: &[(&str, Loaded)]) {
         take::compare_all(report, case, &loaded);
     }
 }
-
-/// The number and the entry or lane of the second program's refusal, as the engine answers them.
-fn reason(refusal: second::Refusal) -> (usize, usize) {
-    (refusal.number as usize, refusal.entry.or(refusal.lane).unwrap_or(0))
-}

@@ -1,33 +1,24 @@
 //! The owner call: the field of each bit, or gap.
 
-use super::reason;
 use crate::case::Case;
 use crate::engine::{self, Loaded, Owned};
 use crate::random::Random;
-use crate::report::{Answer, Report};
+use crate::refusals::{self, ACCEPTED};
+use crate::report::Report;
 use crate::strings::LARGEST;
 use crate::tally::Row;
 
-pub static CALL: Row = Row { name: "owner", numbers: &[0, 1, 2, 3, 4, 5, 6, 7, 9, 10] };
+pub static CALL: Row = Row::new("owner", refusals::OWNER);
 
 /// The accepted answers, by what they say.
-pub static FIELD: Row = Row { name: "owner: a field", numbers: &[0] };
-pub static GAP: Row = Row { name: "owner: gap", numbers: &[0] };
-
-impl Answer for Owned {
-    fn refusal(&self) -> usize {
-        self.refusal
-    }
-}
+pub static FIELD: Row = Row::new("owner: a field", ACCEPTED);
+pub static GAP: Row = Row::new("owner: gap", ACCEPTED);
 
 fn of_second(case: &Case, set: usize, offset: usize, bit: usize) -> Owned {
     match second::owner(case.count, case.rw, case.ro, set, offset, bit) {
         Ok(Some((entry, part, lane))) => Owned { refusal: 0, at: 0, gap: 0, entry, part, lane },
         Ok(None) => Owned { gap: 1, ..Owned::default() },
-        Err(refusal) => {
-            let (number, at) = reason(refusal);
-            Owned::refused(number, at)
-        }
+        Err(refusal) => refusal.into(),
     }
 }
 

@@ -1,27 +1,18 @@
-//! The place call: byte and lowest bit of each field.
+//! The place call: offset and lowest bit of each field.
 
-use super::reason;
 use crate::case::Case;
 use crate::engine::{self, Loaded, Placed};
 use crate::random::Random;
-use crate::report::{Answer, Report};
+use crate::refusals;
+use crate::report::Report;
 use crate::tally::Row;
 
-pub static CALL: Row = Row { name: "place", numbers: &[0, 1, 2, 3, 4, 5, 6, 7, 9, 10, 11] };
-
-impl Answer for Placed {
-    fn refusal(&self) -> usize {
-        self.refusal
-    }
-}
+pub static CALL: Row = Row::new("place", refusals::PLACE);
 
 fn of_second(case: &Case, set: usize, entry: usize, part: usize, lane: usize) -> Placed {
     match second::place(case.count, case.rw, case.ro, set, entry, part, lane) {
-        Ok((byte, bit)) => Placed { refusal: 0, at: 0, byte, bit },
-        Err(refusal) => {
-            let (number, at) = reason(refusal);
-            Placed::refused(number, at)
-        }
+        Ok((offset, bit)) => Placed { refusal: 0, at: 0, offset, bit },
+        Err(refusal) => refusal.into(),
     }
 }
 

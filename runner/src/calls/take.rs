@@ -3,27 +3,22 @@
 use crate::case::{Case, Hex};
 use crate::engine::{self, Loaded, Taken};
 use crate::random::Random;
-use crate::report::{Answer, Report};
+use crate::refusals::{self, ACCEPTED};
+use crate::report::Report;
 use crate::strings::{RO, RW};
 use crate::tally::Row;
 
-pub static CALL: Row = Row { name: "take", numbers: &[0, 1, 2, 9] };
+pub static CALL: Row = Row::new("take", refusals::TAKE);
 
 /// What an accepted step gives.
-pub static ENTRY: Row = Row { name: "take: entry", numbers: &[0] };
-pub static END: Row = Row { name: "take: end", numbers: &[0] };
+pub static ENTRY: Row = Row::new("take: entry", ACCEPTED);
+pub static END: Row = Row::new("take: end", ACCEPTED);
 
 /// Counts on both sides of the limits of check 9 and of A.
 const COUNTS: [usize; 7] = [0, 1, 8, 9, 15, 16, usize::MAX];
 
 /// Positions past every string.
 const FAR: [usize; 4] = [121, 256, 1 << 32, usize::MAX];
-
-impl Answer for Taken {
-    fn refusal(&self) -> usize {
-        self.refusal
-    }
-}
 
 fn entry(start: usize, length: usize) -> Taken {
     Taken { start, length, position: start + length, ..Taken::default() }

@@ -4,6 +4,7 @@ use super::aim::{chosen, Aim};
 use crate::calls::bank::Agreed;
 use crate::case::Case;
 use crate::engine;
+use crate::refusals::{only, Numbers, ACCEPTED, LANES};
 use crate::report::Report;
 use crate::tally::Row;
 
@@ -44,7 +45,7 @@ impl Look<'_> {
     }
 
     fn app(&self, lane: usize) -> usize {
-        self.agreed.before[768 + 8 * self.set + lane - 1].into()
+        self.agreed.before[engine::app_sel_at(self.set, lane)].into()
     }
 
     /// An application mask has an app that is above the count.
@@ -56,34 +57,34 @@ impl Look<'_> {
 /// Name, numbers, and what an apply must be to be counted there, under the number that it answers.
 type Reached = (Row, fn(&Look) -> bool);
 
-const fn reached(name: &'static str, numbers: &'static [usize], test: fn(&Look) -> bool) -> Reached {
-    (Row { name, numbers }, test)
+const fn reached(name: &'static str, numbers: Numbers, test: fn(&Look) -> bool) -> Reached {
+    (Row::new(name, numbers), test)
 }
 
 static REACHED: [Reached; 18] = [
-    reached("apply: lane 1", &[0, 13, 14], |look| look.names(1)),
-    reached("apply: lane 2", &[0, 13, 14], |look| look.names(2)),
-    reached("apply: lane 3", &[0, 13, 14], |look| look.names(3)),
-    reached("apply: lane 4", &[0, 13, 14], |look| look.names(4)),
-    reached("apply: lane 5", &[0, 13, 14], |look| look.names(5)),
-    reached("apply: lane 6", &[0, 13, 14], |look| look.names(6)),
-    reached("apply: lane 7", &[0, 13, 14], |look| look.names(7)),
-    reached("apply: lane 8", &[0, 13, 14], |look| look.names(8)),
-    reached("apply: two lanes or more", &[0, 13, 14], |look| look.about().len() > 1),
-    reached("apply: all lanes", &[0, 13], |look| look.agreed.refusal < 14 && look.about().len() == 8),
-    reached("apply: count 1 to 8", &[0, 13, 14], |look| look.case.count <= 8 && !look.about().is_empty()),
-    reached("apply: count 9 to 15", &[0, 13, 14], |look| look.case.count > 8 && !look.about().is_empty()),
-    reached("apply: 14 beside 13", &[13], |look| !look.lacking.is_empty() && !look.bad.is_empty()),
-    reached("apply: 14 in lower lane", &[13], |look| look.bad.first().is_some_and(|&lane| lane < look.agreed.at)),
-    reached("apply: empty mask", &[0], |look| look.lanes == 0),
-    reached("apply: no byte changed", &[0], |look| look.accepted() && look.lanes != 0 && look.changed.is_empty()),
+    reached("apply: lane 1", LANES, |look| look.names(1)),
+    reached("apply: lane 2", LANES, |look| look.names(2)),
+    reached("apply: lane 3", LANES, |look| look.names(3)),
+    reached("apply: lane 4", LANES, |look| look.names(4)),
+    reached("apply: lane 5", LANES, |look| look.names(5)),
+    reached("apply: lane 6", LANES, |look| look.names(6)),
+    reached("apply: lane 7", LANES, |look| look.names(7)),
+    reached("apply: lane 8", LANES, |look| look.names(8)),
+    reached("apply: two lanes or more", LANES, |look| look.about().len() > 1),
+    reached("apply: all lanes", ACCEPTED.and(&[13]), |look| look.agreed.refusal < 14 && look.about().len() == 8),
+    reached("apply: count 1 to 8", LANES, |look| look.case.count <= 8 && !look.about().is_empty()),
+    reached("apply: count 9 to 15", LANES, |look| look.case.count > 8 && !look.about().is_empty()),
+    reached("apply: 14 beside 13", only(&[13]), |look| !look.lacking.is_empty() && !look.bad.is_empty()),
+    reached("apply: 14 in lower lane", only(&[13]), |look| look.bad.first().is_some_and(|&lane| lane < look.agreed.at)),
+    reached("apply: empty mask", ACCEPTED, |look| look.lanes == 0),
+    reached("apply: no byte changed", ACCEPTED, |look| look.accepted() && look.lanes != 0 && look.changed.is_empty()),
     // A chosen lane's field is not copied, since its entry's mask lacks the AppSel.
-    reached("apply: a field kept", &[0], |look| {
+    reached("apply: a field kept", ACCEPTED, |look| {
         let lacks = |lane| look.aim.targets.iter().any(|target| !target.has_app(look.app(lane)));
         look.accepted() && chosen(look.lanes).any(lacks)
     }),
     // An application mask has bits above the count; with 13, the bit of the named lane's AppSel.
-    reached("apply: bits above count", &[0, 13, 14], |look| match look.agreed.refusal {
+    reached("apply: bits above count", LANES, |look| match look.agreed.refusal {
         13 => look.above_count(look.app(look.agreed.at)),
         _ => (1..=16).any(|app| look.above_count(app)),
     }),

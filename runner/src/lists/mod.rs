@@ -12,6 +12,7 @@ use crate::case::Case;
 use crate::engine;
 use crate::fixed;
 use crate::random::Random;
+use crate::refusals::{ACCEPTED, LANES, VALUE};
 use crate::report::Report;
 use crate::shape::TABLE;
 use crate::tally::Row;
@@ -21,42 +22,39 @@ use aim::Aim;
 /// Lists that are compared.
 const LISTS: u64 = 12_000;
 
-/// Lists after an accepted fresh that must be followed to their end, against the plain table.
-const TO_THE_END: u64 = 5_000;
-
 /// The most calls of a list, and of one whose every call is refused.
 const LONGEST: usize = 200;
 const REFUSED: usize = 40;
 
 /// Values accepted and not, by the ID that they were for.
 static VALUES_BY_ID: [Row; 11] = [
-    Row { name: "write: 02h", numbers: &[0, 12] },
-    Row { name: "write: 03h", numbers: &[0, 12] },
-    Row { name: "write: 04h", numbers: &[0, 12] },
-    Row { name: "write: 05h", numbers: &[0, 12] },
-    Row { name: "write: 06h", numbers: &[0, 12] },
-    Row { name: "write: 07h", numbers: &[0, 12] },
-    Row { name: "write: 08h", numbers: &[0, 12] },
-    Row { name: "write: 0Fh", numbers: &[0, 12] },
-    Row { name: "write: 10h", numbers: &[0, 12] },
-    Row { name: "publish: 11h", numbers: &[0, 12] },
-    Row { name: "publish: 12h", numbers: &[0, 12] },
+    Row::new("write: 02h", VALUE),
+    Row::new("write: 03h", VALUE),
+    Row::new("write: 04h", VALUE),
+    Row::new("write: 05h", VALUE),
+    Row::new("write: 06h", VALUE),
+    Row::new("write: 07h", VALUE),
+    Row::new("write: 08h", VALUE),
+    Row::new("write: 0Fh", VALUE),
+    Row::new("write: 10h", VALUE),
+    Row::new("publish: 11h", VALUE),
+    Row::new("publish: 12h", VALUE),
 ];
 
 /// Accepted byte calls, by what the byte holds: every byte is a gap whole or not at all.
 static BYTES_BY_KIND: [Row; 4] = [
-    Row { name: "byte write: fields", numbers: &[0] },
-    Row { name: "byte write: gap", numbers: &[0] },
-    Row { name: "byte read: fields", numbers: &[0] },
-    Row { name: "byte read: gap", numbers: &[0] },
+    Row::new("byte write: fields", ACCEPTED),
+    Row::new("byte write: gap", ACCEPTED),
+    Row::new("byte read: fields", ACCEPTED),
+    Row::new("byte read: gap", ACCEPTED),
 ];
 
 /// Accepted weights, by the step of their entry.
 static WEIGHTS_BY_STEP: [Row; 4] = [
-    Row { name: "weight: step 0", numbers: &[0] },
-    Row { name: "weight: step 1", numbers: &[0] },
-    Row { name: "weight: step 2", numbers: &[0] },
-    Row { name: "weight: step 3", numbers: &[0] },
+    Row::new("weight: step 0", ACCEPTED),
+    Row::new("weight: step 1", ACCEPTED),
+    Row::new("weight: step 2", ACCEPTED),
+    Row::new("weight: step 3", ACCEPTED),
 ];
 
 /// The rows that lists are counted in, beside those of the calls.
@@ -76,8 +74,6 @@ pub fn compare(report: &mut Report) {
         };
         compare_list(report, &map.case(), &random);
     }
-    // The bank is compared twice at the end of a list.
-    report.calls.require(&bank::END_BANK, 2 * TO_THE_END);
 }
 
 /// Compares the calls of one list, up to the first on which the programs differ.
@@ -92,7 +88,7 @@ fn compare_list(report: &mut Report, case: &Case, random: &Random) {
             return;
         };
         match (call, agreed.refusal) {
-            (Call::Listed(Write { entry, .. } | Publish { entry, .. }), refusal @ (0 | 12)) => {
+            (Call::Listed(Write { entry, .. } | Publish { entry, .. }), refusal) if VALUE.has(refusal) => {
                 let row = TABLE.concat().iter().position(|&id| id == aim.ids[entry]);
                 report.calls.count(&VALUES_BY_ID[row.expect("an ID of the table")], refusal);
             }
@@ -102,7 +98,7 @@ fn compare_list(report: &mut Report, case: &Case, random: &Random) {
             (Call::Listed(ByteRead { set, offset }), 0) => {
                 report.calls.count(&BYTES_BY_KIND[2 + gap(case, set, offset)], 0);
             }
-            (Call::Listed(Apply { set, lanes }), 0 | 13 | 14) => {
+            (Call::Listed(Apply { set, lanes }), refusal) if LANES.has(refusal) => {
                 applies::count(report, case, &aim, set, lanes, &agreed);
             }
             (Call::Weight { entry, .. }, 0) => report.calls.count(&WEIGHTS_BY_STEP[aim.step(case, entry)], 0),

@@ -95,7 +95,7 @@ fn compare_lanes(report: &mut Report) {
                 }
                 if bad > 0 {
                     let at = engine::place(count, &rw, &[], set, 1, 0, bad);
-                    let call = ByteWrite { set, offset: at.byte, byte: 3 << at.bit };
+                    let call = ByteWrite { set, offset: at.offset, byte: 3 << at.bit };
                     bank::compare(report, &case, &mut bank, Call::Listed(call));
                 }
                 for lanes in 0..=0xFF {

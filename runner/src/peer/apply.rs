@@ -1,6 +1,7 @@
 //! Apply in one pass over the strings: lanes as masks, accepted codes as a 16-bit mask for each entry, and the active
 //! set merged with a mask of the bits that are copied.
 
+use super::layout::{app_sels_start, set_start, ACTIVE, BANK_SIZE, SET_SIZE};
 use super::walk::{walk, Entry, Refusal, Visit};
 
 /// All bits of the fields that a mask of lanes chooses in a part, by the width's power of 2 and the mask.
@@ -18,7 +19,7 @@ static SPREAD: [[u64; 256]; 4] = {
 };
 
 /// The bits of a set that are copied. 8 bytes are stored for any entry; those past its fields are 0.
-type Mask = [u8; 256 + 8];
+type Mask = [u8; SET_SIZE + 8];
 
 /// What is asked for, and what the entries that were passed make of it.
 struct Plan<'a> {
@@ -38,9 +39,9 @@ impl<'a> Plan<'a> {
     #[inline(always)]
     fn new(bank: &'a [u8], set: usize, chosen: u8, mask: &'a mut Mask) -> Plan<'a> {
         let mut plan = Plan { staged: &[], appsels: [0; 8], chosen: 0, last: (0, 0), mask, lowest: 8 };
-        if let (0 | 1, Some(bank)) = (set, bank.first_chunk::<784>()) {
-            plan.staged = &bank[256 * set..];
-            plan.appsels.copy_from_slice(&bank[768 + 8 * set..][..8]);
+        if let (0 | 1, Some(bank)) = (set, bank.first_chunk::<BANK_SIZE>()) {
+            plan.staged = &bank[set_start(set)..];
+            plan.appsels.copy_from_slice(&bank[app_sels_start(set)..][..8]);
             plan.chosen = chosen;
         }
         plan
@@ -138,7 +139,7 @@ fn lowest_refused(codes: u16, shift: u8, staged: u64, copied: u64) -> usize {
 
 #[inline(always)]
 pub fn apply(count: usize, rw: &[u8], ro: &[u8], bank: &mut [u8], set: usize, lanes: u8) -> Result<(), Refusal> {
-    let mut mask = [0; 256 + 8];
+    let mut mask: Mask = [0; SET_SIZE + 8];
     let mut plan = Plan::new(bank, set, lanes, &mut mask);
     let map = walk(count, rw, ro, bank.len(), &mut plan)?;
     let (lacking, lowest) = (plan.lacking(count), plan.lowest);
@@ -157,8 +158,8 @@ pub fn apply(count: usize, rw: &[u8], ro: &[u8], bank: &mut [u8], set: usize, la
 /// The masked bits of a staged set to the active set, 16 bytes at a time.
 #[inline(always)]
 fn copy(bank: &mut [u8], set: usize, mask: &[u8], length: usize) {
-    let (staged, active) = bank.split_at_mut(512);
-    let staged = staged[256 * (set & 1)..].chunks_exact(16);
+    let (staged, active) = bank.split_at_mut(set_start(ACTIVE));
+    let staged = staged[set_start(set & 1)..].chunks_exact(16);
     let active = active.chunks_exact_mut(16);
     for ((active, staged), mask) in active.zip(staged).zip(mask.chunks_exact(16)).take(length.div_ceil(16)) {
         for ((active, staged), mask) in active.iter_mut().zip(staged).zip(mask) {

@@ -4,10 +4,12 @@
 #![allow(improper_ctypes_definitions)]
 
 mod apply;
+mod layout;
 mod rows;
 mod walk;
 
 use crate::engine::{Answered, FlatCall, Loaded, Located, Owned, Placed, Taken};
+use layout::{app_sels_start, set_start, ACTIVE, BANK_SIZE};
 use rows::{HAS_STEP, ROWS, SIGNED};
 use walk::{find_byte, find_entry, walk, Entry, Map, Refusal};
 
@@ -62,7 +64,7 @@ impl Entry<'_> {
         part < self.row.parts.into() && lane.wrapping_sub(1) < 8
     }
 
-    /// Byte of a set and lowest bit there.
+    /// Offset in a set and lowest bit there.
     #[inline(always)]
     fn place(&self, part: usize, lane: usize) -> (usize, usize) {
         let first = (lane - 1) << self.row.shift;
@@ -77,8 +79,8 @@ impl Entry<'_> {
 
     #[inline(always)]
     fn number_at(&self, bank: &[u8], set: usize, part: usize, lane: usize) -> i64 {
-        let (byte, bit) = self.place(part, lane);
-        let bits = bank.get(256 * set + byte).map_or(0, |at| at >> bit & self.ones());
+        let (offset, bit) = self.place(part, lane);
+        let bits = bank.get(set_start(set) + offset).map_or(0, |at| at >> bit & self.ones());
         if self.row.traits & SIGNED != 0 {
             i64::from(bits as i8)
         } else {
@@ -88,8 +90,8 @@ impl Entry<'_> {
 
     #[inline(always)]
     fn store(&self, bank: &mut [u8], set: usize, part: usize, lane: usize, value: i64) {
-        let (byte, bit) = self.place(part, lane);
-        if let Some(at) = bank.get_mut(256 * set + byte) {
+        let (offset, bit) = self.place(part, lane);
+        if let Some(at) = bank.get_mut(set_start(set) + offset) {
             *at = *at & !(self.ones() << bit) | (value as u8) << bit;
         }
     }
@@ -128,8 +130,8 @@ calls! {
         let e = passed!(find_entry(count, rw, ro, NO_BANK, entry));
         refuse_if!(set > 2 || !e.has_field(part, lane), 10);
         refuse_if!(set < 2 && e.in_ro, 11);
-        let (byte, bit) = e.place(part, lane);
-        Placed { refusal: 0, at: 0, byte, bit }
+        let (offset, bit) = e.place(part, lane);
+        Placed { refusal: 0, at: 0, offset, bit }
     }
 
     fn owner(count: usize, rw: &[u8], ro: &[u8], set: usize, offset: usize, bit: usize) -> Owned {
@@ -147,8 +149,8 @@ calls! {
 
     fn fresh(count: usize, rw: &[u8], ro: &[u8], bank: &mut [u8]) -> Loaded {
         let map = passed!(walk(count, rw, ro, bank.len(), &mut ()));
-        if let Some(bank) = bank.first_chunk_mut::<784>() {
-            *bank = [0; 784];
+        if let Some(bank) = bank.first_chunk_mut::<BANK_SIZE>() {
+            *bank = [0; BANK_SIZE];
         }
         map.into()
     }
@@ -159,7 +161,7 @@ calls! {
         refuse_if!(set > 2 || lane > 7, 10);
         refuse_if!(set == 2, 11);
         refuse_if!(app > count, 12);
-        if let Some(appsel) = bank.get_mut(768 + 8 * set + lane) {
+        if let Some(appsel) = bank.get_mut(app_sels_start(set) + lane) {
             *appsel = app as u8;
         }
         YES
@@ -193,7 +195,7 @@ calls! {
         refuse_if!(!e.has_field(part, lane), 10);
         refuse_if!(!e.in_ro, 11);
         refuse_if!(!e.accepts(value), 12);
-        e.store(bank, 2, part, lane, value);
+        e.store(bank, ACTIVE, part, lane, value);
         YES
     }
 
@@ -203,7 +205,7 @@ calls! {
         let e = passed!(find_byte(count, rw, ro, bank.len(), offset));
         refuse_if!(set > 2 || set < 2 && e.in_ro, 10);
         refuse_if!(set == 2, 11);
-        if let Some(at) = bank.get_mut(256 * set + offset) {
+        if let Some(at) = bank.get_mut(set_start(set) + offset) {
             *at = if offset - e.offset < e.row.needed.into() { byte } else { 0 };
         }
         YES
@@ -213,7 +215,7 @@ calls! {
         let e = passed!(find_byte(count, rw, ro, bank.len(), offset));
         refuse_if!(set > 2 || set < 2 && e.in_ro, 10);
         let in_field = offset - e.offset < e.row.needed.into();
-        match bank.get(256 * set + offset) {
+        match bank.get(set_start(set) + offset) {
             Some(&byte) if in_field => Answered { number: byte.into(), ..YES },
             _ => YES,
         }
@@ -245,7 +247,7 @@ calls! {
         let e = passed!(find_entry(count, rw, ro, bank.len(), entry));
         refuse_if!(e.row.traits & HAS_STEP == 0 || !e.has_field(0, lane), 10);
         let thousandths = [10, 20, 25, 40][usize::from(e.step() & 3)];
-        Answered { number: e.number_at(bank, 2, 0, lane) * thousandths, ..YES }
+        Answered { number: e.number_at(bank, ACTIVE, 0, lane) * thousandths, ..YES }
     }
 
     fn take(count: usize, string: &[u8], position: usize) -> Taken {

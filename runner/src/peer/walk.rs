@@ -1,5 +1,6 @@
 //! The checks 9, 8 and 1 to 7 in one pass over both strings, which shows each entry to the call as it passes.
 
+use super::layout::{BANK_SIZE, SET_SIZE};
 use super::rows::{Row, HAS_CODES, HAS_FLAGS, HAS_STEP, HOST_FIRST, IN_RO, IN_RW, ROWS};
 
 /// A refusal's number, and the entry or lane that it names, or 0.
@@ -105,7 +106,7 @@ impl Walk {
                 return Err(6);
             }
             let end = self.sum + usize::from(memory);
-            if end > 256 {
+            if end > SET_SIZE {
                 return Err(7);
             }
             let (number, in_ro, offset) = (self.entries, side == IN_RO, self.sum);
@@ -125,7 +126,7 @@ pub fn walk(count: usize, rw: &[u8], ro: &[u8], bank_length: usize, visitor: &mu
     if count.wrapping_sub(1) >= 15 || rw.len() > 120 || ro.len() > 120 {
         return Err((9, 0));
     }
-    if bank_length < 784 {
+    if bank_length < BANK_SIZE {
         return Err((8, 0));
     }
     if count <= 8 {

@@ -1,21 +1,22 @@
 //! Refusals of the load by the string and the kind of the entry that they name.
 
 use super::look::Seen;
+use crate::refusals::{IN_PLACE, MISPLACED};
 use crate::tally::{Row, Tally};
 
 static KINDS: [Row; 12] = [
-    Row { name: "RW: 02h to 08h", numbers: &[1, 2, 4, 6, 7] },
-    Row { name: "RW: 0Fh, 10h", numbers: &[1, 2, 4, 7] },
-    Row { name: "RW: 11h, 12h", numbers: &[1, 2, 3] },
-    Row { name: "RW: 01h, 09h to 0Eh", numbers: &[1, 2, 7] },
-    Row { name: "RW: 00h", numbers: &[1, 2, 7] },
-    Row { name: "RW: 13h to FFh", numbers: &[1, 2, 7] },
-    Row { name: "RO: 02h to 08h", numbers: &[1, 2, 3] },
-    Row { name: "RO: 0Fh, 10h", numbers: &[1, 2, 3] },
-    Row { name: "RO: 11h, 12h", numbers: &[1, 2, 4, 5, 7] },
-    Row { name: "RO: 01h, 09h to 0Eh", numbers: &[1, 2, 3] },
-    Row { name: "RO: 00h", numbers: &[1, 2, 7] },
-    Row { name: "RO: 13h to FFh", numbers: &[1, 2, 7] },
+    Row::new("RW: 02h to 08h", IN_PLACE.and(&[4, 6])),
+    Row::new("RW: 0Fh, 10h", IN_PLACE.and(&[4])),
+    Row::new("RW: 11h, 12h", MISPLACED),
+    Row::new("RW: 01h, 09h to 0Eh", IN_PLACE),
+    Row::new("RW: 00h", IN_PLACE),
+    Row::new("RW: 13h to FFh", IN_PLACE),
+    Row::new("RO: 02h to 08h", MISPLACED),
+    Row::new("RO: 0Fh, 10h", MISPLACED),
+    Row::new("RO: 11h, 12h", IN_PLACE.and(&[4, 5])),
+    Row::new("RO: 01h, 09h to 0Eh", MISPLACED),
+    Row::new("RO: 00h", IN_PLACE),
+    Row::new("RO: 13h to FFh", IN_PLACE),
 ];
 
 pub fn tally() -> Tally {

@@ -2,6 +2,7 @@
 
 use crate::case::Case;
 use crate::engine::Loaded;
+use crate::refusals::{named, Named};
 use crate::shape::{mask_bytes, shape, TABLE};
 use crate::strings::{LARGEST, RO, RW};
 
@@ -34,7 +35,7 @@ pub struct Look<'a> {
 impl<'a> Look<'a> {
     pub fn new(case: Case<'a>, answer: Loaded) -> Look<'a> {
         let mut look = Look { case, answer, a: mask_bytes(case.count), passed: Vec::new(), stop: None };
-        if answer.refusal == 9 {
+        if !look.accepted() && named(answer.refusal) != Named::Entry {
             return look;
         }
         for string in [RW, RO] {
@@ -116,7 +117,7 @@ impl<'a> Look<'a> {
         self.passed.iter().find(media)
     }
 
-    /// A check from 1 to 7, looked at by itself, fails at this entry.
+    /// A check of an entry, looked at by itself, fails at this one.
     pub fn fails(&self, number: usize, entry: &Seen) -> bool {
         match number {
             1 => entry.length().is_none_or(|length| length > entry.rest.len()),
@@ -129,7 +130,8 @@ impl<'a> Look<'a> {
             4 => self.memory(entry).is_some_and(|memory| memory < self.needed(entry)),
             5 => self.step(entry).is_some_and(|step| step > 3),
             6 => (0x02..=0x08).contains(&entry.id()) && !self.odd(entry) && self.first_media().is_some(),
-            _ => self.sum_with(entry) > LARGEST,
+            7 => self.sum_with(entry) > LARGEST,
+            _ => unreachable!("{number} is no check of an entry"),
         }
     }
 }

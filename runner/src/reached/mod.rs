@@ -7,7 +7,8 @@ mod pairs;
 
 use crate::case::Case;
 use crate::engine::Loaded;
-use crate::tally::{Tally, FLOOR};
+use crate::refusals::FLOOR;
+use crate::tally::Tally;
 use limits::LIMITS;
 use look::Look;
 

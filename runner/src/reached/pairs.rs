@@ -1,26 +1,27 @@
 //! Several faults in one entry: the check that was answered, and each later one that fails there too.
 
 use super::look::{Look, Seen};
+use crate::refusals::checks_after;
 use crate::tally::{Row, Tally};
 
-/// 5 and 6 never meet: 12h isn't among 02h to 08h.
-static ANSWERED: [Row; 6] = [
-    Row { name: "1 answered", numbers: &[2, 3, 4, 5, 6, 7] },
-    Row { name: "2 answered", numbers: &[3, 4, 5, 6, 7] },
-    Row { name: "3 answered", numbers: &[4, 5, 6, 7] },
-    Row { name: "4 answered", numbers: &[5, 6, 7] },
-    Row { name: "5 answered", numbers: &[7] },
-    Row { name: "6 answered", numbers: &[7] },
+/// The check that was answered, and its row. 5 and 6 never meet: 12h isn't among 02h to 08h.
+static ANSWERED: [(usize, Row); 6] = [
+    (1, Row::new("1 answered", checks_after(1))),
+    (2, Row::new("2 answered", checks_after(2))),
+    (3, Row::new("3 answered", checks_after(3))),
+    (4, Row::new("4 answered", checks_after(4))),
+    (5, Row::new("5 answered", checks_after(5).without(6))),
+    (6, Row::new("6 answered", checks_after(6))),
 ];
 
 pub fn tally() -> Tally {
-    Tally::new("and failing too", &ANSWERED.each_ref())
+    Tally::new("and failing too", &ANSWERED.each_ref().map(|(_, row)| row))
 }
 
 pub fn count(tally: &mut Tally, refusal: usize, look: &Look, stop: &Seen) {
-    for later in refusal + 1..=7 {
-        if look.fails(later, stop) {
-            tally.count(&ANSWERED[refusal - 1], later);
-        }
+    for later in checks_after(refusal).iter().filter(|&later| look.fails(later, stop)) {
+        let answered = ANSWERED.iter().find(|(check, _)| *check == refusal);
+        let (_, row) = answered.expect("a row of every check but the last");
+        tally.count(row, later);
     }
 }
