@@ -13,6 +13,7 @@ use Rattle.rules.specs.Place.{entry, partsOf, widthOf, signedOf, fieldBy
 use Rattle.rules.specs.Accept.{accepts, toBits, fromBits}
 use Rattle.rules.specs.Layout.{bankSize, setStart, appSelAt}
 use Rattle.rules.specs.Refuse.{Verdict, passes, refuses, decide, bankOrder, judge, chooses, atLowest}
+use Rattle.rules.specs.Machine.{Command, call}
 
 abbrev pub Bank : Type 0
 Bank = List ℕ
@@ -127,10 +128,6 @@ freshened (refuses r) answer b = (rejected r, b)
 unfoldable pub freshStep : ℕ → List ℕ → List ℕ → Bank → Loaded × Bank
 freshStep count rw ro b = freshened (bankOrder count rw ro (length b) []) (loadOf count rw ro) b
 
--- a list of calls, each on the bank that the one before left
-unfoldable pub runBank : ℕ → List ℕ → List ℕ → List Call → Bank → List Answer × Bank
-runBank count rw ro [] b = ([], b)
-runBank count rw ro (c ∷ cs) b =
-    let r : Answer × Bank = bankStep count rw ro c b in
-    let rs : List Answer × Bank = runBank count rw ro cs (r .1) in
-    (r .0 ∷ rs .0, rs .1)
+-- what the bank makes of each thing that a list holds
+unfoldable pub bankMakes : ℕ → List ℕ → List ℕ → Command → Bank → Answer × Bank
+bankMakes count rw ro (call c) b = bankStep count rw ro c b
