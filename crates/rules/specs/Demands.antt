@@ -7,7 +7,7 @@ use Prim.Native.Nat.{ℕ, _+_, _-_, _≤_, _<_}
 use lib.IntN.{pos, negsuc}
 use lib.ListN.{length, getD, take, drop}
 use lib.Dec.{T, eqb}
-use Rattle.rules.specs.Words.{Refusal, plain, atEntry, Entry, failed, State, accepted, rejected, Call, read, Answer, refused, placedAt, notPlaced, ownedBy, gap, notOwned, noMore, notTaken}
+use Rattle.rules.specs.Words.{Refusal, plain, atEntry, Entry, failed, State, accepted, rejected, Call, read, Answer, refused, placedAt, notPlaced, ownedBy, noOwner, notOwned, noMore, notTaken}
 use Rattle.rules.specs.Numbers.{cut}
 use Rattle.rules.specs.Descriptor.{maskBytes, hasApp, byteAt, entryAt, decodeAt}
 use Rattle.rules.specs.Load.{start, Map, loadOf, rwEntries, roEntries, total, mapOf}
@@ -111,7 +111,7 @@ pub record OwnerAndPlace (count : ℕ) (rw ro : List ℕ) : Type 0 where
       → s < 3
       → k < lengthOf (mapOf count rw ro) s
       → q < 8
-      → (ownerCall count rw ro s k q ≡ gap) ↔ ((e p i : ℕ) → ¬ (PlaceCovers count rw ro s e p i k q))
+      → (ownerCall count rw ro s k q ≡ noOwner) ↔ ((e p i : ℕ) → ¬ (PlaceCovers count rw ro s e p i k q))
   -- a field that is placed owns its place
   pub place-owned : (s e p i k q : ℕ) → placeOf count rw ro s e p i ≡ placedAt k q → ownerCall count rw ro s k q ≡ ownedBy e p i
   -- every field that a set holds is placed, within its entry and within one byte
