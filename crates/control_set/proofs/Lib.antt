@@ -5,6 +5,7 @@ pub mod Signs
 pub mod Values
 pub mod Ways
 pub mod Enters
+pub mod Stores
 pub mod ByteWays
 pub mod Leasts
 pub mod Copies

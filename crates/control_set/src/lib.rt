@@ -6,7 +6,9 @@ ghost use Rattle.rules.specs.declared.Call.{Call};
 ghost use Rattle.rules.specs.Layout.{bankSize};
 ghost use Rattle.rules.specs.Bank.{freshBank, freshStep, bankStep};
 ghost use Rattle.rules.specs.Beside.{weightCall};
+ghost use Rattle.descriptor.specs.Find.{acceptedBy};
 ghost use Rattle.control_set.specs.Gate.{refusedOf, byteRefused};
+ghost use Rattle.control_set.specs.Store.{Storable, storeOf};
 
 mod accept; // accepted values
 mod bank; // a field of a bank
@@ -36,6 +38,7 @@ use crate::plan::lowest_bad;
 use crate::plan::lowest_lacking;
 use crate::plan::wanted;
 use descriptor::Found;
+use descriptor::Named;
 use descriptor::table::CLASSES;
 use descriptor::table::ROWS;
 use descriptor::table::VALUES;
@@ -122,6 +125,20 @@ fn refused(found: Found) -> Answer
     }
 }
 
+// A call that sets a number, past 10 and 11: whether the field accepts the value, which it then takes; else it keeps its own.
+fn store(bank: &mut [u8], set: usize, f: Named, part: usize, lane: usize, value: i64) -> bool
+    requires { ⌜ Storable (now bank) set f part lane value ⌝ }
+    ensures answer { λ r. ⌜ r ≡ acceptedBy f value ⌝ }
+    ensures after { λ _. ⌜ now (bank .exit) ≡ storeOf (now (bank .entry)) set f part lane value ⌝ }
+{
+    if accepts(f, value) {
+        let bits = bits_of(value);
+        write_field(bank, set, f.offset, part, f.width, lane, bits);
+        return true;
+    }
+    false
+}
+
 // write: stores an accepted value in a field of a staged set.
 pub fn write(
     count: usize,
@@ -147,11 +164,9 @@ pub fn write(
     if (set == 2) | f.ro {
         return Answer::Refused(Refusal::Plain(11));
     }
-    if !accepts(f, value) {
+    if !store(bank, set, f, part, lane, value) {
         return Answer::Refused(Refusal::Plain(12));
     }
-    let bits = bits_of(value);
-    write_field(bank, set, f.offset, part, f.width, lane, bits);
     Answer::Yes
 }
 
@@ -265,11 +280,9 @@ pub fn publish(
     if !f.ro {
         return Answer::Refused(Refusal::Plain(11));
     }
-    if !accepts(f, value) {
+    if !store(bank, 2, f, part, lane, value) {
         return Answer::Refused(Refusal::Plain(12));
     }
-    let bits = bits_of(value);
-    write_field(bank, 2, f.offset, part, f.width, lane, bits);
     Answer::Yes
 }
 

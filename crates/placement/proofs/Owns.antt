@@ -8,11 +8,11 @@ use native.Mathlib.Omega.{arith}
 use lib.Dec.{T, ltb, ltb→lt}
 use borrow.Author.Tests.{ltb-true, ltb-false, le-ltb}
 use Rattle.rules.specs.declared.Refusal.the-variants.{Plain as plain}
-use Rattle.rules.specs.declared.Owned.the-variants.{Field as ownedBy, Gap as gap, Refused as notOwned}
+use Rattle.rules.specs.declared.Owned.the-variants.{Field as ownedBy, Gap as noOwner, Refused as notOwned}
 use Rattle.rules.specs.Parameter.{rowOf}
 use Rattle.rules.specs.Load.{Map, mapOf}
 use Rattle.rules.specs.Place.{entry, partsOf, widthOf, isSet, isStaged, heldBy, lengthOf, ownerOf}
-use Rattle.rules.specs.Beside.{isBit, ownerCall}
+use Rattle.rules.specs.Beside.{ownedAs, isBit, ownerCall}
 use Rattle.rules.specs.Demands.{Accepted}
 use Rattle.rules.proofs.Tests.{and₃, is-false, from-true, and-no}
 use Rattle.rules.proofs.Good.{GoodMap}
@@ -27,7 +27,7 @@ use Rattle.placement.specs.Owner.{fieldIn}
 
 -- fieldIn, from the shape of the ID
 module _ (n id byte bit : ℕ) {z : Shape} (q : z ≡ shapeOf id) where
-  pub field-in-gap : ltb byte (z .parts * z .width) ≡ false → gap ≡ fieldIn n id byte bit
+  pub field-in-gap : ltb byte (z .parts * z .width) ≡ false → noOwner ≡ fieldIn n id byte bit
   unfolding fieldIn
   field-in-gap h = rw (rw q at h) refl
 
@@ -70,7 +70,7 @@ module _ (count : ℕ) (first last : List ℕ) {k : ℕ} {inRO : Bool} {n id o :
         (rw (c .side) (is-false (isStaged s && inRO) (tests .1)))
 
     -- the field, or the surplus past the parts
-    in-entry : fieldIn n (entry m n .id) (k - entry m n .offset) q ≡ ownerOf m s k q
+    in-entry : fieldIn n (entry m n .id) (k - entry m n .offset) q ≡ ownedAs (ownerOf m s k q)
     unfolding fieldIn partsOf widthOf
     in-entry = go (ltb (k - entry m n .offset) (rowOf (entry m n .id) .parts * rowOf (entry m n .id) .width)) refl
       where
@@ -83,14 +83,14 @@ module _ (count : ℕ) (first last : List ℕ) {k : ℕ} {inRO : Bool} {n id o :
         go : (b : Bool) → ltb (k - entry m n .offset) (rowOf (entry m n .id) .parts * rowOf (entry m n .id) .width) ≡ b
             → cond b
             (ownedBy n ((k - entry m n .offset) / rowOf (entry m n .id) .width) (((k - entry m n .offset) % rowOf (entry m n .id) .width * 8 + q) / rowOf (entry m n .id) .width + 1))
-            gap
-            ≡ ownerOf m s k q
+            noOwner
+            ≡ ownedAs (ownerOf m s k q)
         go true x =
             let l : k - entry m n .offset < rowOf (entry m n .id) .parts * rowOf (entry m n .id) .width = ltb-true _ _ x in
-            rw add-one (sym (owner-field m g s k q set bit (record { ent = held; low = c .low; top = omega arith })))
+            rw add-one (sym (ap ownedAs (owner-field m g s k q set bit (record { ent = held; low = c .low; top = omega arith }))))
         go false x =
             let l : rowOf (entry m n .id) .parts * rowOf (entry m n .id) .width ≤ k - entry m n .offset = ltb-false _ _ x in
-            sym (owner-surplus m g s k q set bit n held (omega (arith, c .low)) (c .top))
+            sym (ap ownedAs (owner-surplus m g s k q set bit n held (omega (arith, c .low)) (c .top)))
 
     -- what the code subtracts, and what it multiplies by 8
     pub owns-small : (o ≤ k) × (k - o ≤ 256) × (q < 8)

@@ -12,7 +12,7 @@ use rules::Owned;
 use rules::Placed;
 use rules::Refusal;
 
-// Place: a field's byte in a set and its lowest bit there, refused as read is.
+// Place: a field's offset in a set and its lowest bit there, refused as read is.
 pub fn place(
     count: usize,
     rw: &[u8],
@@ -37,7 +37,7 @@ pub fn place(
             }
             let first = (lane - 1) * f.width;
             Placed::At {
-                byte: f.offset + part * f.width + first / 8,
+                offset: f.offset + part * f.width + first / 8,
                 bit: first % 8,
             }
         }

@@ -26,11 +26,11 @@ use Rattle.rules.proofs.Holds.{Holds, holds-ext, bits-of, put-holds, se
 use Rattle.rules.proofs.Plans.{staged-field, copies-same, plan-same}
 use Rattle.rules.proofs.Applied.{apply-holds}
 use Rattle.rules.proofs.Verdicts.{Judged}
+use Rattle.rules.proofs.Machines.{Alike}
 
 -- the two machines' results: equal answers, and states in the relation
-pub record Same (m : Map) (tail : List ℕ) (x : Answer × Bank) (y : Answer × Table) : Type 0 where
-  pub answer : x .0 ≡ y .0
-  pub after : Holds m tail (x .1) (y .1)
+abbrev pub Same : Map → List ℕ → Answer × Bank → Answer × Table → Type 0
+Same m tail = Alike (Holds m tail)
 
 module _ (m : Map) (g : GoodMap m) (tail : List ℕ) (b : Bank) (t : Table) (r : Holds m tail b t) where
   does-select : (s i a : ℕ) → Judged m (select s i a) → Same m tail (bankDoes m (select s i a) b) (tableDoes m (select s i a) t)

@@ -1,6 +1,6 @@
 -- A small module on which both machines are run by computing. It also shows that the premises of demand 3 can be met.
 use mathlib.Core.Path.{_≡_, refl}
-use mathlib.Core.List.{List, [], _∷_}
+use mathlib.Core.List.{List, [], _∷_, map}
 use Prim.Native.Nat.{ℕ, _+_}
 use native.Mathlib.Omega.{arith}
 use lib.IntN.{pos, negsuc}
@@ -14,8 +14,9 @@ use Rattle.rules.specs.Place.{partsOf, widthOf, signedOf, heldBy, length
 use Rattle.rules.specs.Accept.{within, inCodes, accepts, toBits, fromBits}
 use Rattle.rules.specs.Refuse.{check9, check8, check1to7, exists, misdirected, unaccepted, judge, atLowest, bankOrder, orderOf}
 use Rattle.rules.specs.Layout.{bankSize, setStart, appSelStart, appSelAt}
-use Rattle.rules.specs.Bank.{Bank, getField, putField, numberIn, withNumber, fieldBits, bankLacksApp, bankCopies, bankHoldsBad, bankPlan, loop, copyField, applyBank, bankDoes, bankStep, freshBank, freshStep, runBank}
-use Rattle.rules.specs.Table.{byteFrom, tableLacksApp, tableCopies, tableHoldsBad, tablePlan, tableDoes, tableStep, runTable}
+use Rattle.rules.specs.Bank.{Bank, getField, putField, numberIn, withNumber, fieldBits, bankLacksApp, bankCopies, bankHoldsBad, bankPlan, loop, copyField, applyBank, bankDoes, bankStep, freshBank, freshStep, bankMakes}
+use Rattle.rules.specs.Table.{byteFrom, tableLacksApp, tableCopies, tableHoldsBad, tablePlan, tableDoes, tableStep, tableMakes}
+use Rattle.rules.specs.Machine.{call, run}
 use Rattle.rules.specs.Demands.{Accepted, bankRun, tableRun, ListAgrees}
 use Rattle.rules.proofs.Lists.{lists-agree}
 
@@ -93,15 +94,15 @@ unfolding rowOf maskBytes highFirst codesOf stepOf refuse lengthChecks contentCh
 example-accepted = record { rwCount = 3; roCount = 1; staged = 8; active = 16; loads = refl }
 
 -- the bank machine, computed
-pub example-bank : bankRun 2 rwString roString bank calls .0 ≡ answers
-unfolding sum any lowest rowOf maskBytes highFirst codesOf stepOf refuse lengthChecks contentChecks decodeAt foldBy foldOf walkOf entriesFrom stringsOf loadOf rwEntries roEntries entriesOf total mapOf partsOf widthOf signedOf heldBy lengthOf firstOwner ownerOf within inCodes accepts toBits fromBits check9 check8 check1to7 exists misdirected unaccepted judge atLowest bankOrder getField putField numberIn withNumber fieldBits bankLacksApp bankCopies bankHoldsBad bankPlan loop copyField applyBank bankDoes bankStep freshBank freshStep runBank bankSize setStart appSelStart appSelAt
+pub example-bank : bankRun 2 rwString roString bank (map call calls) .0 ≡ answers
+unfolding sum any lowest rowOf maskBytes highFirst codesOf stepOf refuse lengthChecks contentChecks decodeAt foldBy foldOf walkOf entriesFrom stringsOf loadOf rwEntries roEntries entriesOf total mapOf partsOf widthOf signedOf heldBy lengthOf firstOwner ownerOf within inCodes accepts toBits fromBits check9 check8 check1to7 exists misdirected unaccepted judge atLowest bankOrder getField putField numberIn withNumber fieldBits bankLacksApp bankCopies bankHoldsBad bankPlan loop copyField applyBank bankDoes bankStep freshBank freshStep bankMakes run bankSize setStart appSelStart appSelAt
 example-bank = refl
 
 -- the plain table, computed
-pub example-table : tableRun 2 rwString roString calls .0 ≡ answers
-unfolding sum any lowest rowOf maskBytes highFirst codesOf stepOf refuse lengthChecks contentChecks decodeAt foldBy foldOf walkOf entriesFrom stringsOf loadOf rwEntries roEntries entriesOf total mapOf partsOf widthOf signedOf heldBy lengthOf within inCodes accepts toBits fromBits check9 check1to7 exists misdirected unaccepted judge atLowest orderOf byteFrom tableLacksApp tableCopies tableHoldsBad tablePlan tableDoes tableStep runTable
+pub example-table : tableRun 2 rwString roString (map call calls) .0 ≡ answers
+unfolding sum any lowest rowOf maskBytes highFirst codesOf stepOf refuse lengthChecks contentChecks decodeAt foldBy foldOf walkOf entriesFrom stringsOf loadOf rwEntries roEntries entriesOf total mapOf partsOf widthOf signedOf heldBy lengthOf within inCodes accepts toBits fromBits check9 check1to7 exists misdirected unaccepted judge atLowest orderOf byteFrom tableLacksApp tableCopies tableHoldsBad tablePlan tableDoes tableStep tableMakes run
 example-table = refl
 
 -- demand 3 of this module, bank and list: its premises are met
-pub example-agrees : ListAgrees 2 rwString roString bank calls
-example-agrees = lists-agree 2 rwString roString bank example-accepted (rw (length-replicate {A = ℕ} (bankSize + 1) 0xA5) (omega arith)) calls
+pub example-agrees : ListAgrees 2 rwString roString bank (map call calls)
+example-agrees = lists-agree 2 rwString roString bank example-accepted (rw (length-replicate {A = ℕ} (bankSize + 1) 0xA5) (omega arith)) (map call calls)

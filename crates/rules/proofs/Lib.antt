@@ -51,6 +51,7 @@ pub mod Gaps
 pub mod Holds
 pub mod Plans
 pub mod Applied
+pub mod Machines
 pub mod Calls
 pub mod Lists
 pub mod Fresh

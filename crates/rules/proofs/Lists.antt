@@ -1,8 +1,8 @@
 -- DEMAND 3: every list of calls keeps the relation of bank and table; from fresh on; and the relation shows what is asked.
-use mathlib.Core.Path.{_≡_, refl, sym, ap, ap₂, _∙_}
+use mathlib.Core.Path.{_≡_, refl, sym, ap, _∙_}
 use mathlib.Core.Logic.{_⊎_, inl, inr}
 use mathlib.Core.Bool.{Bool, true, false, not}
-use mathlib.Core.List.{List, [], _∷_, _++_}
+use mathlib.Core.List.{List, [], _++_}
 use Prim.Native.Nat.{ℕ, _+_, _-_, _%_, _^_, _≤_, _<_}
 use native.Mathlib.Nat.{zero-div, zero-mod}
 use native.Mathlib.Omega.{arith}
@@ -19,8 +19,9 @@ use Rattle.rules.specs.Place.{entry, widthOf, signedOf, holds, fieldBit,
 use Rattle.rules.specs.Accept.{fromBits}
 use Rattle.rules.specs.Refuse.{firstOf, judge}
 use Rattle.rules.specs.Layout.{bankSize, HasBytes, setStart, appSelAt}
-use Rattle.rules.specs.Bank.{Bank, fieldAt, getField, numberIn, bankPlan, freshBank, bankStep, freshStep, runBank}
-use Rattle.rules.specs.Table.{Table, freshTable, tablePlan, tableStep, runTable}
+use Rattle.rules.specs.Bank.{Bank, fieldAt, getField, numberIn, bankPlan, freshBank, bankStep, freshStep, bankMakes}
+use Rattle.rules.specs.Table.{Table, freshTable, tablePlan, tableStep, tableMakes}
+use Rattle.rules.specs.Machine.{Command, call, run}
 use Rattle.rules.specs.Demands.{Accepted, bitIn, Shows, bankRun, Demand3}
 use Rattle.rules.proofs.Tests.{either}
 use Rattle.rules.proofs.Good.{GoodMap}
@@ -31,6 +32,7 @@ use Rattle.rules.proofs.Cover.{covered, in-covered, in-field}
 use Rattle.rules.proofs.Holds.{Holds}
 use Rattle.rules.proofs.Verdicts.{first-append, first-same, judge-passes, order-open, bank-order-open, decide-both}
 use Rattle.rules.proofs.Calls.{Same, does, plans}
+use Rattle.rules.proofs.Machines.{Alike, run-alike}
 
 -- one call, and a list of calls, on accepted strings
 module _ (count : ℕ) (first last : List ℕ) (ok : Accepted count first last) (tail : List ℕ) where
@@ -60,19 +62,15 @@ module _ (count : ℕ) (first last : List ℕ) (ok : Accepted count first last) 
       (λ _. record { answer = refl; after = r })
       (λ h. does m good tail b t r c (judge-passes m c (first-append (judge m c) (tablePlan m c t) h .0))))
 
-  run :
-      (cs : List Call) (b : Bank) (t : Table)
+  makes : (c : Command) (b : Bank) (t : Table) → Holds m tail b t → Same m tail (bankMakes count first last c b) (tableMakes count first last c t)
+  unfolding bankMakes tableMakes
+  makes (call c) b t r = step c b t r
+
+  runs :
+      (cs : List Command) (b : Bank) (t : Table)
       → Holds m tail b t
-      → (runBank count first last cs b .0 ≡ runTable count first last cs t .0)
-      × Holds m tail (runBank count first last cs b .1) (runTable count first last cs t .1)
-  unfolding runBank runTable
-  run [] b t r = (refl, r)
-  run (c ∷ cs) b t r =
-      let q : Same m tail (bankStep count first last c b) (tableStep count first last c t) = step c b t r in
-      let rest : (runBank count first last cs (bankStep count first last c b .1) .0 ≡ runTable count first last cs (tableStep count first last c t .1) .0)
-      × Holds m tail (runBank count first last cs (bankStep count first last c b .1) .1) (runTable count first last cs (tableStep count first last c t .1) .1)
-      = run cs (bankStep count first last c b .1) (tableStep count first last c t .1) (q .after) in
-      (ap₂ _∷_ (q .answer) (rest .0), rest .1)
+      → Alike (Holds m tail) (run (bankMakes count first last) cs b) (run (tableMakes count first last) cs t)
+  runs = run-alike (bankMakes count first last) (tableMakes count first last) (Holds m tail) makes
 
 -- a fresh bank and a fresh table
 zeros-at : (n k : ℕ) (tail : List ℕ) → k < n → getD (replicate n 0 ++ tail) k 0 ≡ 0
@@ -139,10 +137,10 @@ pub lists-agree : Demand3
 lists-agree count first last bank ok size calls =
     let m : Map = mapOf count first last in
     let g : GoodMap m = map-good count first last ok in
-    let r = run count first last ok (drop bankSize bank) calls (freshStep count first last bank .1) freshTable (rw (fresh-bank count first last bank ok size) (zero-holds m g (drop bankSize bank) bankSize refl)) in
+    let r = runs count first last ok (drop bankSize bank) calls (freshStep count first last bank .1) freshTable (rw (fresh-bank count first last bank ok size) (zero-holds m g (drop bankSize bank) bankSize refl)) in
     record {
-      answers = r .0;
-      shows = shows m g (drop bankSize bank) _ _ (r .1);
-      size = omega (arith, size, r .1 .size, sym (length-drop bankSize (bankRun count first last bank calls .1)) ∙ ap length (r .1 .beyond) ∙ length-drop bankSize bank);
-      beyond = r .1 .beyond;
+      answers = r .answer;
+      shows = shows m g (drop bankSize bank) _ _ (r .after);
+      size = omega (arith, size, r .after .size, sym (length-drop bankSize (bankRun count first last bank calls .1)) ∙ ap length (r .after .beyond) ∙ length-drop bankSize bank);
+      beyond = r .after .beyond;
     }

@@ -5,9 +5,8 @@ use native.Mathlib.Nat.{mul-assoc, div-lt-iff-lt-mul, div-mul-le-self, lt-div-mu
 use native.Mathlib.Omega.{arith}
 use native.Mathlib.Decide.{decLt}
 use lib.Arith.{digits-lt}
-use Rattle.rules.specs.Words.{ownedBy, gap}
 use Rattle.rules.specs.Load.{Map}
-use Rattle.rules.specs.Place.{entry, partsOf, widthOf, heldBy, laneByte, laneBit, fieldByte, ownerOf}
+use Rattle.rules.specs.Place.{entry, partsOf, widthOf, heldBy, laneByte, laneBit, fieldByte, ownerOf, field, gap}
 use Rattle.rules.specs.Layout.{HasBytes}
 use Rattle.rules.proofs.Lanes.{Width, width-pos, full, lane-at-byte, lane-at-bit}
 use Rattle.rules.proofs.Good.{GoodMap, entries-apart}
@@ -46,7 +45,7 @@ module _ (m : Map) (g : GoodMap m) (s k q : ℕ) (hs : HasBytes s) (hq : q < 8) 
   pub owner-field :
       {e : ℕ} (h : In m s e k)
       → ownerOf m s k q
-      ≡ ownedBy e
+      ≡ field e
       ((k - entry m e .offset) / widthOf (entry m e))
       (suc (((k - entry m e .offset) % widthOf (entry m e) * 8 + q) / widthOf (entry m e)))
   owner-field {e} h =

@@ -6,55 +6,53 @@ use Prim.Native.Nat.{ℕ, zero, suc, _+_, _-_, _≤_, _<_}
 use native.Mathlib.Omega.{arith}
 use native.Mathlib.Decide.{ℕ-discrete}
 use lib.Dec.{T, ltb, leb, eqb, ltb→lt, leb→le, eqb→eq}
-use Rattle.rules.specs.Words.{Owned, ownedBy, gap, notOwned}
 use Rattle.rules.specs.Load.{Map}
-use Rattle.rules.specs.Place.{entry, partsOf, widthOf, heldBy, fieldByte, fieldBit, covers, orElse, firstOwner, ownerOf}
+use Rattle.rules.specs.Place.{entry, partsOf, widthOf, heldBy, fieldByte, fieldBit, covers, orElse, firstOwner, ownerOf, Owner, field, gap}
 use Rattle.rules.specs.Layout.{HasBytes}
 use Rattle.rules.proofs.Tests.{and₃, is-true, from-true}
 use Rattle.rules.proofs.Lanes.{lanes-apart}
 use Rattle.rules.proofs.Good.{GoodMap}
 use Rattle.rules.proofs.Places.{Field, lane-field, field-width, same-entry, same-part}
 
-first-some : (n : ℕ) (f : ℕ → Owned) (e p i : ℕ) → firstOwner n f ≡ ownedBy e p i → (k : ℕ) × (k < n) × (f k ≡ ownedBy e p i)
+first-some : (n : ℕ) (f : ℕ → Owner) (e p i : ℕ) → firstOwner n f ≡ field e p i → (k : ℕ) × (k < n) × (f k ≡ field e p i)
 unfolding firstOwner
 first-some zero f e p i h = let o : _≡_ {A = ℕ} 0 1 = cc in absurd (omega arith)
 first-some (suc n) f e p i h = go (firstOwner n f) refl (first-some n f e p i) h
   where
-    go : (x : Owned) → firstOwner n f ≡ x → (firstOwner n f ≡ ownedBy e p i → (k : ℕ) × (k < n) × (f k ≡ ownedBy e p i)) → orElse x (f n) ≡ ownedBy e p i
-        → (k : ℕ) × (k < suc n) × (f k ≡ ownedBy e p i)
+    go : (x : Owner) → firstOwner n f ≡ x → (firstOwner n f ≡ field e p i → (k : ℕ) × (k < n) × (f k ≡ field e p i)) → orElse x (f n) ≡ field e p i
+        → (k : ℕ) × (k < suc n) × (f k ≡ field e p i)
     go gap q r y = (n, omega arith, y)
-    go (ownedBy e′ p′ i′) q r y = let (k, l, z) = r (q ∙ y) in (k, omega arith, z)
-    go (notOwned x) q r y = let o : _≡_ {A = ℕ} 0 1 = cc in absurd (omega arith)
+    go (field e′ p′ i′) q r y = let (k, l, z) = r (q ∙ y) in (k, omega arith, z)
 
-first-gap : (n : ℕ) (f : ℕ → Owned) → ((k : ℕ) → k < n → f k ≡ gap) → firstOwner n f ≡ gap
+first-gap : (n : ℕ) (f : ℕ → Owner) → ((k : ℕ) → k < n → f k ≡ gap) → firstOwner n f ≡ gap
 unfolding firstOwner
 first-gap zero f h = refl
 first-gap (suc n) f h = rw (first-gap n f (λ k l. h k (omega arith))) (h n (omega arith))
 
 -- a search in which every answer is a gap or one owner
 module _ (e p i : ℕ) where
-  abbrev Only : Owned → Type 0
-  Only x = (x ≡ gap) ⊎ (x ≡ ownedBy e p i)
+  abbrev Only : Owner → Type 0
+  Only x = (x ≡ gap) ⊎ (x ≡ field e p i)
 
-  or-only : (x y : Owned) → Only x → Only y → Only (orElse x y)
+  or-only : (x y : Owner) → Only x → Only y → Only (orElse x y)
   or-only x y (inl a) h = rw a h
   or-only x y (inr a) h = rw a (inr refl)
 
-  first-only : (n : ℕ) (f : ℕ → Owned) → ((k : ℕ) → k < n → Only (f k)) → Only (firstOwner n f)
+  first-only : (n : ℕ) (f : ℕ → Owner) → ((k : ℕ) → k < n → Only (f k)) → Only (firstOwner n f)
   unfolding firstOwner
   first-only zero f h = inl refl
   first-only (suc n) f h = or-only (firstOwner n f) (f n) (first-only n f (λ k l. h k (omega arith))) (h n (omega arith))
 
-  or-right-owner : (x y : Owned) → Only x → y ≡ ownedBy e p i → orElse x y ≡ ownedBy e p i
+  or-right-owner : (x y : Owner) → Only x → y ≡ field e p i → orElse x y ≡ field e p i
   or-right-owner x y (inl a) h = rw a h
   or-right-owner x y (inr a) h = rw a
 
-  first-one : (n : ℕ) (f : ℕ → Owned) → ((k : ℕ) → k < n → Only (f k)) → (k : ℕ) → k < n → f k ≡ ownedBy e p i → firstOwner n f ≡ ownedBy e p i
+  first-one : (n : ℕ) (f : ℕ → Owner) → ((k : ℕ) → k < n → Only (f k)) → (k : ℕ) → k < n → f k ≡ field e p i → firstOwner n f ≡ field e p i
   unfolding firstOwner
   first-one zero f h k l q = absurd (omega arith)
   first-one (suc n) f h k l q = go (ℕ-discrete k n) (λ l′. first-one n f (λ j lj. h j (omega arith)) k l′ q)
     where
-      go : Dec (k ≡ n) → (k < n → firstOwner n f ≡ ownedBy e p i) → orElse (firstOwner n f) (f n) ≡ ownedBy e p i
+      go : Dec (k ≡ n) → (k < n → firstOwner n f ≡ field e p i) → orElse (firstOwner n f) (f n) ≡ field e p i
       go (yes x) r = or-right-owner (firstOwner n f) (f n) (first-only n f (λ j lj. h j (omega arith))) (rw x at q)
       go (no x) r = rw (r (omega arith)) refl
 
@@ -93,14 +91,14 @@ module _ (m : Map) (g : GoodMap m) where
       (sym ee, sym ep, same-lane f f₂ c c₂)
 
   module _ (s k q : ℕ) (hs : HasBytes s) where
-    abbrev found : ℕ → ℕ → ℕ → Owned
-    found e p j = cond (covers (entry m e) p (suc j) k q) (ownedBy e p (suc j)) gap
+    abbrev found : ℕ → ℕ → ℕ → Owner
+    found e p j = cond (covers (entry m e) p (suc j) k q) (field e p (suc j)) gap
 
     -- the owner covers the bit
-    found-covers : (e′ p′ j e p i : ℕ) → Field m s e′ p′ (suc j) → found e′ p′ j ≡ ownedBy e p i → Field m s e p i × T (covers (entry m e) p i k q)
+    found-covers : (e′ p′ j e p i : ℕ) → Field m s e′ p′ (suc j) → found e′ p′ j ≡ field e p i → Field m s e p i × T (covers (entry m e) p i k q)
     found-covers e′ p′ j e p i f h = go (covers (entry m e′) p′ (suc j) k q) refl h
       where
-        go : (c : Bool) → covers (entry m e′) p′ (suc j) k q ≡ c → cond c (ownedBy e′ p′ (suc j)) gap ≡ ownedBy e p i → Field m s e p i × T (covers (entry m e) p i k q)
+        go : (c : Bool) → covers (entry m e′) p′ (suc j) k q ≡ c → cond c (field e′ p′ (suc j)) gap ≡ field e p i → Field m s e p i × T (covers (entry m e) p i k q)
         go true x y =
             let e₁ : e′ ≡ e = cc in
             let e₂ : p′ ≡ p = cc in
@@ -108,7 +106,7 @@ module _ (m : Map) (g : GoodMap m) where
             rw (← e₁, ← e₂, ← e₃) (f, from-true x)
         go false x y = let o : _≡_ {A = ℕ} 0 1 = cc in absurd (omega arith)
 
-    pub owner-covers : (e p i : ℕ) → ownerOf m s k q ≡ ownedBy e p i → Field m s e p i × T (covers (entry m e) p i k q)
+    pub owner-covers : (e p i : ℕ) → ownerOf m s k q ≡ field e p i → Field m s e p i × T (covers (entry m e) p i k q)
     unfolding ownerOf
     owner-covers e p i h =
         let (e′, he, h₁) = first-some (heldBy m s) _ e p i h in
@@ -121,16 +119,16 @@ module _ (m : Map) (g : GoodMap m) where
       found-only : (e′ p′ j : ℕ) → e′ < heldBy m s → p′ < partsOf (entry m e′) → j < 8 → Only e p i (found e′ p′ j)
       found-only e′ p′ j he hp hj = go (covers (entry m e′) p′ (suc j) k q) refl
         where
-          go : (x : Bool) → covers (entry m e′) p′ (suc j) k q ≡ x → Only e p i (cond x (ownedBy e′ p′ (suc j)) gap)
+          go : (x : Bool) → covers (entry m e′) p′ (suc j) k q ≡ x → Only e p i (cond x (field e′ p′ (suc j)) gap)
           go false y = inl refl
           go true y =
               let (a, b, d) = covers-same f (lane-field m s hs e′ p′ j he hp hj) (covers-says c) (covers-says (from-true y)) in
               inr (rw (a, b, d))
 
-      lane-found : (j : ℕ) → suc j ≡ i → found e p j ≡ ownedBy e p i
+      lane-found : (j : ℕ) → suc j ≡ i → found e p j ≡ field e p i
       lane-found j x = rw (x, is-true (covers (entry m e) p i k q) c)
 
-      pub covers-owner : ownerOf m s k q ≡ ownedBy e p i
+      pub covers-owner : ownerOf m s k q ≡ field e p i
       unfolding ownerOf
       covers-owner =
           let here : suc (i - 1) ≡ i = omega (arith, f .low) in
@@ -143,8 +141,8 @@ module _ (m : Map) (g : GoodMap m) where
     unfolding ownerOf
     owner-none h =
         first-gap (heldBy m s) _ λ e he. first-gap (partsOf (entry m e)) _ λ p hp. first-gap 8 _ λ j hj.
-        none (covers (entry m e) p (suc j) k q) (ownedBy e p (suc j)) (h e p (suc j) (lane-field m s hs e p j he hp hj))
+        none (covers (entry m e) p (suc j) k q) (field e p (suc j)) (h e p (suc j) (lane-field m s hs e p j he hp hj))
       where
-        none : (c : Bool) (x : Owned) → ¬ (T c) → cond c x gap ≡ gap
+        none : (c : Bool) (x : Owner) → ¬ (T c) → cond c x gap ≡ gap
         none true x n = absurd (n tt)
         none false x n = refl

@@ -11,7 +11,7 @@ use Rattle.rules.specs.Words.{Refusal, plain, Loaded, accepted, rejected
 use Rattle.rules.specs.Load.{Map, loadOf, mapOf}
 use Rattle.rules.specs.Place.{entry, partsOf, isSet, isStaged, isRW, isLane, heldBy, lengthOf, fieldByte, fieldBit, ownerOf}
 use Rattle.rules.specs.Refuse.{refuses, refuseIf, firstOf, exists, misdirected, unaccepted, judge}
-use Rattle.rules.specs.Beside.{placed, placeOf, isBit, ownerCall, entryVerdict}
+use Rattle.rules.specs.Beside.{placed, placeOf, ownedAs, isBit, ownerCall, entryVerdict}
 use Rattle.rules.specs.Demands.{Accepted}
 use Rattle.rules.proofs.Tests.{and-no}
 use Rattle.rules.proofs.Good.{GoodMap}
@@ -79,7 +79,7 @@ module _ (count : ℕ) (first last : List ℕ) where
       unfolding ownerCall
       owner-10 h = rw (order-accepted count first last ok (refuseIf (not (isBit m s k q)) (plain 10) ∷ []), h) refl
 
-      pub owner-is : isBit (mapOf count first last) s k q ≡ true → ownerOf (mapOf count first last) s k q ≡ ownerCall count first last s k q
+      pub owner-is : isBit (mapOf count first last) s k q ≡ true → ownedAs (ownerOf (mapOf count first last) s k q) ≡ ownerCall count first last s k q
       unfolding ownerCall
       owner-is h = rw (order-accepted count first last ok (refuseIf (not (isBit m s k q)) (plain 10) ∷ []), h) refl
 

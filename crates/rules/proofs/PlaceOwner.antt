@@ -8,12 +8,12 @@ use native.Mathlib.Omega.{arith}
 use lib.ListN.{length, getD, take}
 use lib.Dec.{T, ltb, leb, ltb→lt, lt→ltb, le→leb}
 use borrow.Author.Tests.{lt-ltb}
-use Rattle.rules.specs.Words.{plain, Entry, read, placedAt, ownedBy, gap, notOwned}
+use Rattle.rules.specs.Words.{plain, Entry, read, placedAt, ownedBy, noOwner, notOwned}
 use Rattle.rules.specs.Descriptor.{maskBytes}
 use Rattle.rules.specs.Load.{Map, rwEntries, roEntries, mapOf, total}
-use Rattle.rules.specs.Place.{nothing, entry, partsOf, widthOf, isSet, isStaged, isRW, heldBy, lengthOf, fieldByte, fieldBit, covers, ownerOf}
+use Rattle.rules.specs.Place.{nothing, entry, partsOf, widthOf, isSet, isStaged, isRW, heldBy, lengthOf, fieldByte, fieldBit, covers, ownerOf, Owner, field, gap}
 use Rattle.rules.specs.Refuse.{Verdict, passes, refuses, refuseIf, firstOf, exists, misdirected, unaccepted, judge}
-use Rattle.rules.specs.Beside.{placed, placeOf, owned, isBit, ownerCall}
+use Rattle.rules.specs.Beside.{placed, placeOf, ownedAs, owned, isBit, ownerCall}
 use Rattle.rules.specs.Demands.{Accepted, PlaceCovers, OwnerAndPlace}
 use Rattle.rules.proofs.Tests.{and₂, either, is-true, is-false, both-true}
 use Rattle.rules.proofs.Columns.{accepts-says, shape-says, sign-says}
@@ -53,6 +53,10 @@ module _ (m : Map) (g : GoodMap m) where
   reads-field : (s e p i : ℕ) → firstOf (judge m (read s e p i)) ≡ passes → Field m s e p i
   reads-field s e p i q = read-field m g (judge-passes m (read s e p i) q)
 
+owned-field : (o : Owner) {e p i : ℕ} → ownedAs o ≡ ownedBy e p i → o ≡ field e p i
+owned-field (field e p i) h = cc
+owned-field gap h = let o : _≡_ {A = ℕ} 0 1 = cc in absurd (omega arith)
+
 offset-at : (n : ℕ) (l : List Entry) → Good n l → (k : ℕ) → k < length l → getD l k nothing .offset ≡ n + total (take k l)
 unfolding total
 offset-at n [] p k h = absurd (omega arith)
@@ -89,12 +93,12 @@ module _ (count : ℕ) (first last : List ℕ) (ok : Accepted count first last) 
       go (refuses r) x y = let o : _≡_ {A = ℕ} 0 1 = cc in absurd (omega arith)
 
   -- the owner call
-  owner-call : (s k q : ℕ) → ownerCall count first last s k q ≡ owned (firstOf (refuseIf (not (isBit m s k q)) (plain 10) ∷ [])) (ownerOf m s k q)
+  owner-call : (s k q : ℕ) → ownerCall count first last s k q ≡ owned (firstOf (refuseIf (not (isBit m s k q)) (plain 10) ∷ [])) (ownedAs (ownerOf m s k q))
   unfolding ownerCall m
   owner-call s k q =
       rw (order-open count first last (check9-passes count first last ok) (check1to7-passes count first last ok) (refuseIf (not (isBit (mapOf count first last) s k q)) (plain 10) ∷ []))
 
-  owner-in : (s k q : ℕ) → T (isBit m s k q) → ownerCall count first last s k q ≡ ownerOf m s k q
+  owner-in : (s k q : ℕ) → T (isBit m s k q) → ownerCall count first last s k q ≡ ownedAs (ownerOf m s k q)
   owner-in s k q h = rw (owner-call s k q, is-true (isBit m s k q) h) refl
 
   owner-out : (s k q : ℕ) → T (not (isBit m s k q)) → ownerCall count first last s k q ≡ notOwned (plain 10)
@@ -130,7 +134,7 @@ module _ (count : ℕ) (first last : List ℕ) (ok : Accepted count first last) 
   covers-true {e} {p} {i} {k} {q} c = covers-bit (entry m e) p i k q (c .byte) (c .low) (c .top)
 
   on-owner : (s e p i k q : ℕ) → On s e p i k q → ownerCall count first last s k q ≡ ownedBy e p i
-  on-owner s e p i k q o = owner-in s k q (o .there) ∙ covers-owner m g s k q (o .field .set) e p i (o .field) (covers-true (o .covers))
+  on-owner s e p i k q o = owner-in s k q (o .there) ∙ ap ownedAs (covers-owner m g s k q (o .field .set) e p i (o .field) (covers-true (o .covers)))
 
   covered-place : (s e p i k q : ℕ) → Field m s e p i → T (covers (entry m e) p i k q) → PlaceCovers count first last s e p i k q
   unfolding m
@@ -144,7 +148,7 @@ module _ (count : ℕ) (first last : List ℕ) (ok : Accepted count first last) 
       go : T (isBit m s k q) ⊎ T (not (isBit m s k q)) → PlaceCovers count first last s e p i k q
       go (inl t) =
           let hs : s < 3 = ltb→lt _ _ (and₂ (isSet s) (ltb k (lengthOf m s) && ltb q 8) t .0) in
-          let (f, c) = owner-covers m g s k q hs e p i (sym (owner-in s k q t) ∙ h) in
+          let (f, c) = owner-covers m g s k q hs e p i (owned-field (ownerOf m s k q) (sym (owner-in s k q t) ∙ h)) in
           covered-place s e p i k q f c
       go (inr t) = let z : notOwned (plain 10) ≡ ownedBy e p i = sym (owner-out s k q t) ∙ h in let o : _≡_ {A = ℕ} 0 1 = cc in absurd (omega arith)
 
@@ -154,8 +158,8 @@ module _ (count : ℕ) (first last : List ℕ) (ok : Accepted count first last) 
       record {
         owner-is = λ s k q e p i. (owner-place s k q e p i, λ c. on-owner s e p i k q (place-on s e p i k q c));
         owner-gap = λ s k q hs hk hq. (
-          λ h e p i c. let z : ownedBy e p i ≡ gap = sym (on-owner s e p i k q (place-on s e p i k q c)) ∙ h in let o : _≡_ {A = ℕ} 0 1 = cc in omega arith,
-          λ none. owner-in s k q (bit-there s k q hs hk hq) ∙ owner-none m g s k q hs (λ e p i f c. none e p i (covered-place s e p i k q f c)),
+          λ h e p i c. let z : ownedBy e p i ≡ noOwner = sym (on-owner s e p i k q (place-on s e p i k q c)) ∙ h in let o : _≡_ {A = ℕ} 0 1 = cc in omega arith,
+          λ none. owner-in s k q (bit-there s k q hs hk hq) ∙ ap ownedAs (owner-none m g s k q hs (λ e p i f c. none e p i (covered-place s e p i k q f c))),
         );
         place-owned = λ s e p i k q h. on-owner s e p i k q (place-on s e p i k q (lowest s e p i k q h));
         placed = λ s e p i h. place-field s e p i (holds-field m s e p i h);

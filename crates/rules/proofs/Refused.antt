@@ -3,21 +3,20 @@ use mathlib.Core.Path.{_≡_, refl, sym, _∙_}
 use mathlib.Core.Logic.{_↔_, Iff·symm, Iff·trans}
 use mathlib.Core.Bool.{Bool, true, false, not, cond}
 use mathlib.Core.List.{List, [], _∷_, _++_}
-use Prim.Native.Nat.{ℕ, zero, suc, _<_}
+use Prim.Native.Nat.{ℕ, _<_}
 use native.Mathlib.Omega.{arith}
 use lib.IntN.{ℤ}
 use lib.ListN.{length}
 use lib.Dec.{T, ltb, eqb}
-use Rattle.rules.specs.Words.{Refusal, plain, Loaded, accepted, rejected, Call, select, write, read, byteWrite, byteRead, publish, apply, saysYes, number, refused, placedAt, notPlaced, Owned, ownedBy, gap, notOwned}
+use Rattle.rules.specs.Words.{Refusal, plain, Loaded, accepted, rejected, Call, select, write, read, byteWrite, byteRead, publish, apply, saysYes, number, refused, placedAt, notPlaced, notOwned}
 use Rattle.rules.specs.Load.{sized, stringsOf, loadOf, Map, mapOf}
-use Rattle.rules.specs.Place.{entry, partsOf, isSet, isLane, lengthOf, heldBy, fieldByte, fieldBit, covers, orElse, firstOwner, ownerOf}
+use Rattle.rules.specs.Place.{entry, isSet, isLane, lengthOf, fieldByte, fieldBit, Owner, field, gap, ownerOf}
 use Rattle.rules.specs.Accept.{weightOf}
 use Rattle.rules.specs.Refuse.{Verdict, passes, refuses, refuseIf, firstOf, decide, check9, refusalOf, check1to7, orderOf}
 use Rattle.rules.specs.Bank.{Bank, numberIn, bankDoes, bankStep, freshened, freshStep}
-use Rattle.rules.specs.Beside.{placed, placeOf, owned, isBit, ownerCall, answered, entryVerdict, entryAnswer, isWeighed, weightCall}
+use Rattle.rules.specs.Beside.{placed, placeOf, ownedAs, owned, isBit, ownerCall, answered, entryVerdict, entryAnswer, isWeighed, weightCall}
 use Rattle.rules.specs.Conditions.{Rule, gives, First, Lane, planRules, callRules, stringRules, bankRules}
 use Rattle.rules.specs.Demands.{Accepted}
-use Rattle.rules.proofs.Tests.{by-test}
 use Rattle.rules.proofs.Facts.{lt-says, eq-says, and-says₃}
 use Rattle.rules.proofs.Firsts.{Says, none, also, all-append, refuse-not-says}
 use Rattle.rules.proofs.Orders.{bank-order-passes}
@@ -61,30 +60,9 @@ does-answers m (publish e p i v) b x = yes-answers x
 does-answers m (apply s lanes) b x = yes-answers x
 
 -- the owner of a bit is a field or a gap
-abbrev Found : Owned → Type 0
-Found o = (x : Refusal) → ¬ (o ≡ notOwned x)
-
-gap-found : Found gap
-gap-found x h = let o : _≡_ {A = ℕ} 0 1 = cc in omega arith
-
-field-found : (e p i : ℕ) → Found (ownedBy e p i)
-field-found e p i x h = let o : _≡_ {A = ℕ} 0 1 = cc in omega arith
-
-first-found : (n : ℕ) (f : ℕ → Owned) → ((k : ℕ) → Found (f k)) → Found (firstOwner n f)
-unfolding firstOwner
-first-found zero f h = gap-found
-first-found (suc n) f h = go (firstOwner n f) (first-found n f h)
-  where
-    go : (o : Owned) → Found o → Found (orElse o (f n))
-    go gap g = h n
-    go (ownedBy e p i) g = g
-    go (notOwned x) g = g
-
-owner-found : (m : Map) (s k q : ℕ) → Found (ownerOf m s k q)
-unfolding ownerOf
-owner-found m s k q =
-    first-found (heldBy m s) _ λ e. first-found (partsOf (entry m e)) _ λ p. first-found 8 _ λ j.
-    by-test Found (covers (entry m e) p (suc j) k q) _ _ (λ _. field-found e p (suc j)) (λ _. gap-found)
+owner-answers : (o : Owner) (x : Refusal) → ¬ (ownedAs o ≡ notOwned x)
+owner-answers (field e p i) x h = let o : _≡_ {A = ℕ} 0 1 = cc in omega arith
+owner-answers gap x h = let o : _≡_ {A = ℕ} 0 1 = cc in omega arith
 
 module _ (count : ℕ) (first last : List ℕ) where
   abbrev m : Map
@@ -123,9 +101,9 @@ module _ (count : ℕ) (first last : List ℕ) where
       ↔ First (stringRules count first last (gives (plain 10) (¬ ((s < 3) × (k < lengthOf m s) × (q < 8))) ∷ [])) x
   unfolding ownerCall
   owner-says s k q =
-      answer-says notOwned (λ x y h. cc) (λ v. owned v (ownerOf m s k q)) (λ r. refl) _
+      answer-says notOwned (λ x y h. cc) (λ v. owned v (ownedAs (ownerOf m s k q))) (λ r. refl) _
       (order-says count first last (also (refuse-not-says (isBit m s k q) (plain 10) bit) none))
-      (λ _. owner-found m s k q)
+      (λ _. owner-answers (ownerOf m s k q))
     where
       bit : T (isBit m s k q) ↔ ((s < 3) × (k < lengthOf m s) × (q < 8))
       bit = and-says₃ (isSet s) (ltb k (lengthOf m s)) (ltb q 8) (lt-says s 3) (lt-says k _) (lt-says q 8)

@@ -5,14 +5,15 @@ use mathlib.Core.List.{List, [], _∷_, _++_}
 use Prim.Native.Nat.{ℕ, zero, suc, _+_, _*_, _/_, _%_, _^_}
 use lib.IntN.{ℤ, pos}
 use lib.ListN.{length, getD, set, replicate, drop}
-use Rattle.rules.specs.Words.{Loaded, rejected, Call, select, write, read, byteWrite, byteRead, publish, apply, Answer, saysYes, number, Owned, ownedBy, gap, notOwned}
+use Rattle.rules.specs.Words.{Loaded, rejected, Call, select, write, read, byteWrite, byteRead, publish, apply, Answer, saysYes, number}
 use Rattle.rules.specs.Numbers.{cut, sum, any}
 use Rattle.rules.specs.Descriptor.{isApp, hasApp}
 use Rattle.rules.specs.Load.{Map, loadOf, mapOf}
-use Rattle.rules.specs.Place.{entry, partsOf, widthOf, signedOf, fieldByte, fieldBit, ownerOf}
+use Rattle.rules.specs.Place.{entry, partsOf, widthOf, signedOf, fieldByte, fieldBit, Owner, field, gap, ownerOf}
 use Rattle.rules.specs.Accept.{accepts, toBits, fromBits}
 use Rattle.rules.specs.Layout.{bankSize, setStart, appSelAt}
 use Rattle.rules.specs.Refuse.{Verdict, passes, refuses, decide, bankOrder, judge, chooses, atLowest}
+use Rattle.rules.specs.Machine.{Command, call}
 
 abbrev pub Bank : Type 0
 Bank = List ℕ
@@ -45,10 +46,9 @@ abbrev pub appSelIn : Bank → ℕ → ℕ → ℕ
 appSelIn b s i = getD b (appSelAt s i) 0
 
 -- byte calls: the bits of a byte that belong to fields; "gaps become 0" (byte write), "gaps show 0" (byte read)
-abbrev pub isGap : Owned → Bool
-isGap (ownedBy e p i) = false
+abbrev pub isGap : Owner → Bool
+isGap (field e p i) = false
 isGap gap = true
-isGap (notOwned r) = false
 
 unfoldable pub fieldBits : Map → ℕ → ℕ → ℕ → ℕ
 fieldBits m s k x = sum 8 λ q. cond (isGap (ownerOf m s k q)) 0 (cut x q 1 * 2 ^ q)
@@ -127,10 +127,6 @@ freshened (refuses r) answer b = (rejected r, b)
 unfoldable pub freshStep : ℕ → List ℕ → List ℕ → Bank → Loaded × Bank
 freshStep count rw ro b = freshened (bankOrder count rw ro (length b) []) (loadOf count rw ro) b
 
--- a list of calls, each on the bank that the one before left
-unfoldable pub runBank : ℕ → List ℕ → List ℕ → List Call → Bank → List Answer × Bank
-runBank count rw ro [] b = ([], b)
-runBank count rw ro (c ∷ cs) b =
-    let r : Answer × Bank = bankStep count rw ro c b in
-    let rs : List Answer × Bank = runBank count rw ro cs (r .1) in
-    (r .0 ∷ rs .0, rs .1)
+-- what the bank makes of each thing that a list holds
+unfoldable pub bankMakes : ℕ → List ℕ → List ℕ → Command → Bank → Answer × Bank
+bankMakes count rw ro (call c) b = bankStep count rw ro c b

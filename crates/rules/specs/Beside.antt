@@ -4,9 +4,9 @@ use mathlib.Core.List.{List, [], _∷_}
 use Prim.Native.Nat.{ℕ}
 use lib.ListN.{length, take, drop}
 use lib.Dec.{ltb, eqb}
-use Rattle.rules.specs.Words.{plain, Entry, read, Answer, saysYes, number, refused, Placed, placedAt, notPlaced, Owned, notOwned}
+use Rattle.rules.specs.Words.{plain, Entry, read, Answer, saysYes, number, refused, Placed, placedAt, notPlaced, Owned, ownedBy, noOwner, notOwned}
 use Rattle.rules.specs.Load.{Map, mapOf}
-use Rattle.rules.specs.Place.{entry, isSet, isRW, isLane, lengthOf, fieldByte, fieldBit, ownerOf}
+use Rattle.rules.specs.Place.{entry, isSet, isRW, isLane, lengthOf, fieldByte, fieldBit, Owner, field, gap, ownerOf}
 use Rattle.rules.specs.Accept.{weightOf}
 use Rattle.rules.specs.Refuse.{Verdict, passes, refuses, refuseIf, orderOf, bankOrder, judge}
 use Rattle.rules.specs.Bank.{Bank, numberIn}
@@ -23,6 +23,10 @@ placeOf count rw ro s e p i =
     (placedAt (fieldByte (entry (mapOf count rw ro) e) p i) (fieldBit (entry (mapOf count rw ro) e) i))
 
 -- "owner (set, offset, bit 0 to 7) answers entry, part and lane, or gap"; 10: a set, offset or bit that doesn't exist
+abbrev pub ownedAs : Owner → Owned
+ownedAs (field e p i) = ownedBy e p i
+ownedAs gap = noOwner
+
 abbrev pub owned : Verdict → Owned → Owned
 owned passes x = x
 owned (refuses r) x = notOwned r
@@ -34,7 +38,7 @@ unfoldable pub ownerCall : ℕ → List ℕ → List ℕ → ℕ → ℕ → ℕ
 ownerCall count rw ro s k q =
     owned
     (orderOf count rw ro (refuseIf (not (isBit (mapOf count rw ro) s k q)) (plain 10) ∷ []))
-    (ownerOf (mapOf count rw ro) s k q)
+    (ownedAs (ownerOf (mapOf count rw ro) s k q))
 
 -- the entry call; 10: an entry that doesn't exist
 unfoldable pub entryVerdict : ℕ → List ℕ → List ℕ → ℕ → Verdict

@@ -7,15 +7,16 @@ use Prim.Native.Nat.{ℕ, _+_, _-_, _≤_, _<_}
 use lib.IntN.{ℤ, pos, negsuc}
 use lib.ListN.{length, getD, take, drop}
 use lib.Dec.{T, eqb}
-use Rattle.rules.specs.Words.{Refusal, plain, atEntry, Entry, failed, State, accepted, rejected, Call, read, Answer, refused, placedAt, notPlaced, ownedBy, gap, notOwned, noMore, notTaken}
+use Rattle.rules.specs.Words.{Refusal, plain, atEntry, Entry, failed, State, accepted, rejected, Call, read, Answer, refused, placedAt, notPlaced, ownedBy, noOwner, notOwned, noMore, notTaken}
 use Rattle.rules.specs.Numbers.{cut}
 use Rattle.rules.specs.Descriptor.{maskBytes, hasApp, byteAt, entryAt, decodeAt}
 use Rattle.rules.specs.Load.{start, Map, loadOf, rwEntries, roEntries, total, mapOf}
 use Rattle.rules.specs.Place.{nothing, entry, partsOf, widthOf, signedOf, isRW, lengthOf, holds, fieldByte, fieldBit, covers}
 use Rattle.rules.specs.Accept.{accepts, toBits, fromBits, weightOf}
 use Rattle.rules.specs.Layout.{bankSize, HasBytes, setStart}
-use Rattle.rules.specs.Bank.{Bank, numberIn, appSelIn, bankStep, freshStep, runBank}
-use Rattle.rules.specs.Table.{Table, freshTable, runTable}
+use Rattle.rules.specs.Bank.{Bank, numberIn, appSelIn, bankStep, freshStep, bankMakes}
+use Rattle.rules.specs.Table.{Table, freshTable, tableMakes}
+use Rattle.rules.specs.Machine.{Command, run}
 use Rattle.rules.specs.Beside.{placeOf, ownerCall, entryAnswer, entryBytes, weightCall}
 use Rattle.rules.specs.Reader.{takeOf}
 use Rattle.rules.specs.Columns.{Accepts, Shaped, TwosComplement, ExtrasRead}
@@ -111,7 +112,7 @@ pub record OwnerAndPlace (count : ℕ) (rw ro : List ℕ) : Type 0 where
       → s < 3
       → k < lengthOf (mapOf count rw ro) s
       → q < 8
-      → (ownerCall count rw ro s k q ≡ gap) ↔ ((e p i : ℕ) → ¬ (PlaceCovers count rw ro s e p i k q))
+      → (ownerCall count rw ro s k q ≡ noOwner) ↔ ((e p i : ℕ) → ¬ (PlaceCovers count rw ro s e p i k q))
   -- a field that is placed owns its place
   pub place-owned : (s e p i k q : ℕ) → placeOf count rw ro s e p i ≡ placedAt k q → ownerCall count rw ro s k q ≡ ownedBy e p i
   -- every field that a set holds is placed, within its entry and within one byte
@@ -173,14 +174,14 @@ pub record Shows (m : Map) (b : Bank) (t : Table) : Type 0 where
       → bitIn b s k q ≡ 0
 
 -- the two machines on a list of calls, each from what its fresh left
-abbrev pub bankRun : ℕ → List ℕ → List ℕ → Bank → List Call → List Answer × Bank
-bankRun count rw ro bank calls = runBank count rw ro calls (freshStep count rw ro bank .1)
+abbrev pub bankRun : ℕ → List ℕ → List ℕ → Bank → List Command → List Answer × Bank
+bankRun count rw ro bank calls = run (bankMakes count rw ro) calls (freshStep count rw ro bank .1)
 
-abbrev pub tableRun : ℕ → List ℕ → List ℕ → List Call → List Answer × Table
-tableRun count rw ro calls = runTable count rw ro calls freshTable
+abbrev pub tableRun : ℕ → List ℕ → List ℕ → List Command → List Answer × Table
+tableRun count rw ro calls = run (tableMakes count rw ro) calls freshTable
 
 -- equal lists of answers, a bank that shows the table, and all bytes past the bank's size as they were
-pub record ListAgrees (count : ℕ) (rw ro : List ℕ) (bank : Bank) (calls : List Call) : Type 0 where
+pub record ListAgrees (count : ℕ) (rw ro : List ℕ) (bank : Bank) (calls : List Command) : Type 0 where
   pub answers : bankRun count rw ro bank calls .0 ≡ tableRun count rw ro calls .0
   pub shows : Shows (mapOf count rw ro) (bankRun count rw ro bank calls .1) (tableRun count rw ro calls .1)
   pub size : length (bankRun count rw ro bank calls .1) ≡ length bank
@@ -192,7 +193,7 @@ Demand3 =
     (count : ℕ) (rw ro bank : List ℕ)
     → Accepted count rw ro
     → bankSize ≤ length bank
-    → (calls : List Call)
+    → (calls : List Command)
     → ListAgrees count rw ro bank calls
 
 -- a fresh that is accepted
@@ -206,7 +207,7 @@ pub record FreshAccepted (count : ℕ) (rw ro : List ℕ) (bank : Bank) : Type 0
 -- "Before a list of demand 3 stands an accepted fresh": the same, with that as the only premise
 abbrev pub Demand3-after-fresh : Type 0
 Demand3-after-fresh =
-    (count : ℕ) (rw ro bank : List ℕ) → FreshAccepted count rw ro bank → (calls : List Call) → ListAgrees count rw ro bank calls
+    (count : ℕ) (rw ro bank : List ℕ) → FreshAccepted count rw ro bank → (calls : List Command) → ListAgrees count rw ro bank calls
 
 -- the twelve settings, each of any entry that has the ID, offset or code mask named
 pub record Twelve : Type 0 where

@@ -8,6 +8,7 @@ pub mod Layout
 pub mod Place
 pub mod Accept
 pub mod Refuse
+pub mod Machine
 pub mod Bank
 pub mod Table
 pub mod Beside

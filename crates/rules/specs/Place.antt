@@ -3,7 +3,7 @@ use mathlib.Core.Bool.{Bool, false, _&&_, cond}
 use Prim.Native.Nat.{ℕ, zero, suc, _+_, _-_, _*_, _/_, _%_}
 use lib.ListN.{length, getD}
 use lib.Dec.{ltb, leb, eqb}
-use Rattle.rules.specs.Words.{Entry, Owned, ownedBy, gap, notOwned}
+use Rattle.rules.specs.Words.{Entry}
 use Rattle.rules.specs.Parameter.{rowOf}
 use Rattle.rules.specs.Load.{Map}
 use Rattle.rules.specs.Layout.{hasBytes}
@@ -77,20 +77,24 @@ fieldBit e i = laneBit (widthOf e) i
 abbrev pub covers : Entry → ℕ → ℕ → ℕ → ℕ → Bool
 covers e p i k q = eqb (fieldByte e p i) k && (leb (fieldBit e i) q && ltb q (fieldBit e i + widthOf e))
 
--- the first of f 0 .. f (n - 1) that is no gap
-abbrev pub orElse : Owned → Owned → Owned
-orElse gap y = y
-orElse (ownedBy e p i) y = ownedBy e p i
-orElse (notOwned r) y = notOwned r
+-- whose a bit is: the field's of an entry, part and lane, or nobody's
+pub data Owner : Type 0 where
+  field : ℕ → ℕ → ℕ → Owner
+  gap : Owner
 
-unfoldable pub firstOwner : ℕ → (ℕ → Owned) → Owned
+-- the first of f 0 .. f (n - 1) that is no gap
+abbrev pub orElse : Owner → Owner → Owner
+orElse gap y = y
+orElse (field e p i) y = field e p i
+
+unfoldable pub firstOwner : ℕ → (ℕ → Owner) → Owner
 firstOwner zero f = gap
 firstOwner (suc n) f = orElse (firstOwner n f) (f n)
 
 -- the owner of bit q of byte k: the field that covers it. "All bits in no field, surplus MemoryLength included, are gaps."
-unfoldable pub ownerOf : Map → ℕ → ℕ → ℕ → Owned
+unfoldable pub ownerOf : Map → ℕ → ℕ → ℕ → Owner
 ownerOf m s k q =
     firstOwner (heldBy m s) λ e.
     firstOwner (partsOf (entry m e)) λ p.
     firstOwner 8 λ j.
-    cond (covers (entry m e) p (suc j) k q) (ownedBy e p (suc j)) gap
+    cond (covers (entry m e) p (suc j) k q) (field e p (suc j)) gap

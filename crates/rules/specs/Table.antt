@@ -12,6 +12,7 @@ use Rattle.rules.specs.Load.{Map, mapOf}
 use Rattle.rules.specs.Place.{entry, partsOf, widthOf, signedOf, isRW, heldBy, holds, fieldByte, fieldBit}
 use Rattle.rules.specs.Accept.{accepts, toBits, fromBits}
 use Rattle.rules.specs.Refuse.{Verdict, decide, orderOf, judge, chooses, atLowest}
+use Rattle.rules.specs.Machine.{Command, call}
 
 pub record Table : Type 0 where
   pub numbers : ℕ → ℕ → ℕ → ℕ → ℤ
@@ -97,10 +98,6 @@ unfoldable pub tableStep : ℕ → List ℕ → List ℕ → Call → Table → 
 tableStep count rw ro c t =
     decide (orderOf count rw ro (judge (mapOf count rw ro) c ++ tablePlan (mapOf count rw ro) c t)) t (tableDoes (mapOf count rw ro) c t)
 
--- a list of calls, each on the table that the one before left
-unfoldable pub runTable : ℕ → List ℕ → List ℕ → List Call → Table → List Answer × Table
-runTable count rw ro [] t = ([], t)
-runTable count rw ro (c ∷ cs) t =
-    let r : Answer × Table = tableStep count rw ro c t in
-    let rs : List Answer × Table = runTable count rw ro cs (r .1) in
-    (r .0 ∷ rs .0, rs .1)
+-- what the table makes of each thing that a list holds
+unfoldable pub tableMakes : ℕ → List ℕ → List ℕ → Command → Table → Answer × Table
+tableMakes count rw ro (call c) t = tableStep count rw ro c t

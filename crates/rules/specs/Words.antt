@@ -17,7 +17,7 @@ pub use Rattle.rules.specs.declared.Answer.the-variants.{Yes as saysYes,
 pub use Rattle.rules.specs.declared.Placed.{Placed}
 pub use Rattle.rules.specs.declared.Placed.the-variants.{At as placedAt, Refused as notPlaced}
 pub use Rattle.rules.specs.declared.Owned.{Owned}
-pub use Rattle.rules.specs.declared.Owned.the-variants.{Field as ownedBy, Gap as gap, Refused as notOwned}
+pub use Rattle.rules.specs.declared.Owned.the-variants.{Field as ownedBy, Gap as noOwner, Refused as notOwned}
 pub use Rattle.rules.specs.declared.Taken.{Taken}
 pub use Rattle.rules.specs.declared.Taken.the-variants.{Part as taken, End as noMore, Refused as notTaken}
 

@@ -135,9 +135,9 @@ pub enum Answer {
     Refused(Refusal),
 }
 
-// Where a field lies: its byte in the set and its lowest bit.
+// Where a field lies: its offset in the set and its lowest bit.
 pub enum Placed {
-    At { byte: usize, bit: usize },
+    At { offset: usize, bit: usize },
     Refused(Refusal),
 }
 

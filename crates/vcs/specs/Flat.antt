@@ -45,8 +45,8 @@ flatEntry (nowhere r) =
     record { refusal = reasonOf r .number; at = reasonOf r .at; string = 0; start = 0; length = 0; offset = 0 }
 
 abbrev pub flatPlaced : Placed → FlatPlaced
-flatPlaced (placedAt k q) = record { refusal = 0; at = 0; byte = k; bit = q }
-flatPlaced (notPlaced r) = record { refusal = reasonOf r .number; at = reasonOf r .at; byte = 0; bit = 0 }
+flatPlaced (placedAt k q) = record { refusal = 0; at = 0; offset = k; bit = q }
+flatPlaced (notPlaced r) = record { refusal = reasonOf r .number; at = reasonOf r .at; offset = 0; bit = 0 }
 
 abbrev pub flatOwned : Owned → FlatOwned
 flatOwned (ownedBy e p i) = record { refusal = 0; at = 0; gap = 0; entry = e; part = p; lane = i }

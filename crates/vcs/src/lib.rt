@@ -64,7 +64,7 @@ pub struct FlatEntry {
 pub struct FlatPlaced {
     pub refusal: usize,
     pub at: usize,
-    pub byte: usize,
+    pub offset: usize,
     pub bit: usize,
 }
 
@@ -273,7 +273,7 @@ pub extern "C" fn vcs_entry(count: usize, rw: &[u8], ro: &[u8], entry: usize) ->
     }
 }
 
-// Place: a field's byte in a set and its lowest bit there.
+// Place: a field's offset in a set and its lowest bit there.
 #[no_mangle]
 pub extern "C" fn vcs_place(
     count: usize,
@@ -288,10 +288,10 @@ pub extern "C" fn vcs_place(
 {
     let placed = place(count, rw, ro, set, entry, part, lane);
     match placed {
-        Placed::At { byte, bit } => FlatPlaced {
+        Placed::At { offset, bit } => FlatPlaced {
             refusal: 0,
             at: 0,
-            byte,
+            offset,
             bit,
         },
         Placed::Refused(r) => {
@@ -299,7 +299,7 @@ pub extern "C" fn vcs_place(
             FlatPlaced {
                 refusal: why.number,
                 at: why.at,
-                byte: 0,
+                offset: 0,
                 bit: 0,
             }
         }
