@@ -14,7 +14,6 @@ use Rattle.rules.proofs.Good.{GoodEntry, rw-held, entry-good, entry-ends}
 use Rattle.rules.proofs.Walks.{map-good}
 use Rattle.rules.proofs.PlaceOwner.{both-ways}
 use Rattle.rules.proofs.EntryHeads.{strings-short, lengths-next, lengths-most, total-next, in-rw, rw-offset}
-use Rattle.descriptor.specs.Wide.{standingAt}
 use Rattle.control_set.specs.Plan.{Listed, Spread, fieldsOf}
 
 pub record Passed (l : List Entry) (n at sum : ℕ) : Type 0 where
@@ -67,7 +66,7 @@ module _ {count : ℕ} {first : List ℕ} {all : ℕ} (d : Listed count first al
     omega (arith, sum-is, ends),
   )
 
-  pub passed-entry : entryAt (maskBytes count) first (standingAt at sum) ≡ getD (rwEntries count first) n nothing
+  pub passed-entry : entryAt (maskBytes count) first at sum ≡ getD (rwEntries count first) n nothing
   passed-entry = rw (← at-is, ← sum-is) (sym (both-ways count first (d .last) (d .ok) .rw-fills .says n h))
 
   pub passed-next : Passed (rwEntries count first) (n + 1) (at + e .length) (sum + e .memory)

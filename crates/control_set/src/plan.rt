@@ -7,7 +7,6 @@ ghost use Rattle.rules.specs.Load.{rwEntries};
 ghost use Rattle.rules.specs.Layout.{bankSize};
 ghost use Rattle.rules.specs.Refuse.{chooses};
 ghost use Rattle.rules.specs.Bank.{appSelIn};
-ghost use Rattle.descriptor.specs.Wide.{standingAt};
 ghost use Rattle.descriptor.specs.Rows.{Tables, classes as classTable};
 ghost use Rattle.control_set.specs.Plan.{Asked, Listed, Spread, Wants, joinedBy, fieldsOf, copiesBy, lacksBy, badAt, badIn, badAmong, Least};
 use crate::bank::read_field;
@@ -67,7 +66,7 @@ pub fn fields_at(
 ) -> Fields
     requires { ⌜ Tables (now classes) (now rows) (now values) ⌝ }
     requires { ⌜ (1 ≤ a) × (a ≤ 2) × (at ≤ 120) ⌝ }
-    ensures { λ r. ⌜ r ≡ fieldsOf (entryAt a (now (s .entry)) (standingAt at offset)) ⌝ }
+    ensures { λ r. ⌜ r ≡ fieldsOf (entryAt a (now (s .entry)) at offset) ⌝ }
 {
     let class = class_of(classes, byte_from(s, at));
     let row = rows[class];

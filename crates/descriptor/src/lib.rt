@@ -16,6 +16,7 @@ ghost use Rattle.descriptor.specs.Wide.{codesBy};
 
 pub mod table; // document 01's table: constant rows by ID class
 mod rows; // the row of an ID
+mod state; // what a walk keeps
 mod step; // one entry: the checks 1 to 7
 mod walk; // one string
 mod reading; // one entry: what a call needs of it
@@ -26,6 +27,8 @@ use crate::reading::named_at;
 use crate::rows::row_of;
 use crate::search::look;
 use crate::search::seek;
+use crate::state::into_ro;
+use crate::state::start;
 use crate::step::byte_at;
 use crate::table::CLASSES;
 use crate::table::ROWS;
@@ -68,11 +71,11 @@ pub fn load(count: usize, rw: &[u8], ro: &[u8]) -> Loaded
     let a = mask_bytes(count);
     let classes = CLASSES;
     let table = ROWS;
-    let first = scan(&classes, &table, false, a, rw, 0, 0, false);
+    let first = scan(&classes, &table, false, a, rw, 0, start());
     let Walked::Ended(m) = first else {
         return refused(first);
     };
-    let last = scan(&classes, &table, true, a, ro, m.number, m.sum, m.media);
+    let last = scan(&classes, &table, true, a, ro, 0, into_ro(m));
     let Walked::Ended(e) = last else {
         return refused(last);
     };

@@ -14,9 +14,9 @@ start = record { number = 0; sum = 0; media = false }
 abbrev pub next : State → Entry → State
 next st e = record { number = st .number + 1; sum = st .sum + e .memory; media = st .media || e .media }
 
--- "RW first, RO after": entry numbers and sum go on
+-- "RW first, RO after": entry numbers and sum go on, and what has been passed stays so
 abbrev pub intoRO : State → State
-intoRO st = st
+intoRO st = record { number = st .number; sum = st .sum; media = st .media }
 
 -- one turn of a walk: what is made of a decode, given what the walk makes of all that follows an entry
 abbrev pub Turn : Type 0 → Type 0

@@ -8,7 +8,6 @@ use borrow.Author.Needs.{needs}
 use Rattle.rules.specs.Descriptor.{byteAt, entryAt}
 use Rattle.rules.specs.Load.{rwEntries}
 use Rattle.rules.specs.Place.{nothing}
-use Rattle.descriptor.specs.Wide.{standingAt}
 use Rattle.control_set.specs.Plan.{Spread, fieldsOf, copyEntry, copyAmong}
 use Rattle.control_set.proofs.Copies.{Upto, upto-none, asked-kept, entry-turn}
 use Rattle.control_set.proofs.Wanted.{wants-kept, clear-kept}
@@ -32,7 +31,7 @@ entry : (c : tie.In-loop Inv-loop μ-loop) →
     let l = c .before in
     let k = l .before in
     let s = k .before .before .before in
-    entryAt (k .mask-bytes .result) (now (s .args .rw)) (standingAt (l .loop .at) (l .loop .sum)) ≡ getD (rwEntries (s .args .chosen .count) (now (s .args .rw))) (l .loop .number) nothing
+    entryAt (k .mask-bytes .result) (now (s .args .rw)) (l .loop .at) (l .loop .sum) ≡ getD (rwEntries (s .args .chosen .count) (now (s .args .rw))) (l .loop .number) nothing
 entry c =
     let l = c .before in
     let k = l .before in
