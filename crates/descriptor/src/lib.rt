@@ -11,6 +11,7 @@ ghost use Rattle.rules.specs.Beside.{entryAnswer, entryBytes};
 ghost use Rattle.descriptor.specs.Locate.{locatedOf};
 ghost use Rattle.descriptor.specs.Find.{foundOf, shapeIn, shapeOf, listedBy};
 ghost use Rattle.descriptor.specs.Cover.{coverOf};
+ghost use Rattle.descriptor.specs.Marks.{pastOr};
 ghost use Rattle.descriptor.specs.Rows.{extrasIn};
 ghost use Rattle.descriptor.specs.Wide.{codesBy};
 
@@ -26,6 +27,7 @@ mod text; // the map program's text
 use crate::reading::named_at;
 use crate::rows::row_of;
 use crate::search::look;
+use crate::search::past;
 use crate::search::seek;
 use crate::state::into_ro;
 use crate::state::start;
@@ -42,6 +44,25 @@ use rules::Answer;
 use rules::Loaded;
 use rules::Refusal;
 use rules::Walked;
+
+// Where an entry stands in a string and in a set: its start and its offset.
+pub struct Mark {
+    pub at: usize,
+    pub sum: usize,
+}
+
+// Past the entry at a mark of either string, once the load has accepted them; a mark at which no entry can stand stays.
+pub fn advance(a: usize, s: &[u8], mark: Mark) -> Mark
+    ensures { λ r. ⌜ r ≡ pastOr a (now (s .entry)) mark ⌝ }
+{
+    if !((a <= 2) & ((mark.at <= 120) & (mark.sum <= 256))) {
+        return mark;
+    }
+    if s.len() <= mark.at + 2 + a {
+        return mark;
+    }
+    past(a, s, mark)
+}
 
 // Where an entry stands: in which string, its start and length there, and its offset in a set.
 pub enum Located {

@@ -33,7 +33,7 @@ module _ (ro : Bool) (a : ℕ) (s : List ℕ) where
       let b = stands-start ro a s g in
       record { says = rw (p .entry) refl; room = omega arith }
 
-  filled-head : (l : List Entry) (n : ℕ) → Filled ro a s 0 l → n < length l → Head a s (getD l n nothing)
+  pub filled-head : (l : List Entry) (n : ℕ) → Filled ro a s 0 l → n < length l → Head a s (getD l n nothing)
   filled-head l n g h = stands-head (filled-nth ro a s l n g h)
 
   -- an entry takes more than one byte
