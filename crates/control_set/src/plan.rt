@@ -10,6 +10,8 @@ ghost use Rattle.rules.specs.Bank.{appSelIn};
 ghost use Rattle.descriptor.specs.Rows.{Tables, classes as classTable};
 ghost use Rattle.control_set.specs.Plan.{Asked, Listed, Spread, Wants, joinedBy, fieldsOf, copiesBy, lacksBy, badAt, badIn, badAmong, Least};
 use crate::bank::read_field;
+use descriptor::Mark;
+use descriptor::advance;
 use descriptor::byte_from;
 use descriptor::listed_from;
 use descriptor::mask_bytes;
@@ -249,14 +251,12 @@ pub fn lowest_bad(
     let a = mask_bytes(chosen.count);
     let mut lowest = 9;
     let mut number = 0;
-    let mut at = 0;
-    let mut sum = 0;
+    let mut mark = Mark { at: 0, sum: 0 };
     while number < entries {
-        let f = fields_at(classes, rows, values, a, rw, at, sum);
+        let f = fields_at(classes, rows, values, a, rw, mark.at, mark.sum);
         lowest = lowest_in_entry(chosen, apps, f, lowest, bank);
         number += 1;
-        sum += byte_from(rw, at + 2 + a);
-        at += byte_from(rw, at + 1);
+        mark = advance(a, rw, mark);
     }
     lowest
 }
