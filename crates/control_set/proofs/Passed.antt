@@ -1,37 +1,37 @@
--- A pass over the RW string: how many entries are behind, where the next begins in the string and in a set, and what it is.
-use mathlib.Core.Path.{_≡_, refl, sym, _∙_}
+-- A pass over the RW string: so many entries are passed, and the next is the one at its mark.
+use mathlib.Core.Path.{_≡_, refl, sym, ap, _∙_}
+use mathlib.Core.Bool.{false}
 use mathlib.Core.List.{List}
 use Prim.Native.Nat.{ℕ, suc, _+_, _≤_, _<_}
 use native.Mathlib.Numerals.{add-one}
 use native.Mathlib.Omega.{arith}
-use lib.ListN.{length, getD, take}
+use lib.ListN.{length, getD}
 use Rattle.rules.specs.declared.Entry.{Entry}
 use Rattle.rules.specs.Descriptor.{maskBytes, entryAt}
-use Rattle.rules.specs.Load.{rwEntries, total, mapOf}
+use Rattle.rules.specs.Load.{rwEntries, mapOf}
 use Rattle.rules.specs.Place.{nothing}
-use Rattle.rules.specs.Demands.{lengths}
 use Rattle.rules.proofs.Good.{GoodEntry, rw-held, entry-good, entry-ends}
 use Rattle.rules.proofs.Walks.{map-good}
-use Rattle.rules.proofs.PlaceOwner.{both-ways}
-use Rattle.rules.proofs.EntryHeads.{strings-short, lengths-next, lengths-most, total-next, in-rw, rw-offset}
-use Rattle.descriptor.specs.Wide.{standingAt}
+use Rattle.rules.proofs.EntryHeads.{in-rw}
+use Rattle.descriptor.specs.declared.Mark.{Mark}
+use Rattle.descriptor.specs.Marks.{pastOr, markAfter}
+use Rattle.descriptor.proofs.Marks.{Marked, marked, past-next}
 use Rattle.control_set.specs.Plan.{Listed, Spread, fieldsOf}
 
-pub record Passed (l : List Entry) (n at sum : ℕ) : Type 0 where
-  pub few : n ≤ length l
-  pub place : lengths (take n l) ≡ at
-  pub space : total (take n l) ≡ sum
+pub record Passed (count : ℕ) (first : List ℕ) (n : ℕ) (mark : Mark) : Type 0 where
+  pub few : n ≤ length (rwEntries count first)
+  pub is : mark ≡ markAfter (maskBytes count) first 0 n
 
-pub passed-none : (l : List Entry) → Passed l 0 0 0
-unfolding total
-passed-none l = record { few = omega arith; place = refl; space = refl }
+pub passed-none : (count : ℕ) (first : List ℕ) → Passed count first 0 (record { at = 0; sum = 0 })
+unfolding markAfter
+passed-none count first = record { few = omega arith; is = refl }
 
-module _ {count : ℕ} {first : List ℕ} {all : ℕ} (d : Listed count first all) {n at sum : ℕ} (r : Passed (rwEntries count first) n at sum) (h : n < length (rwEntries count first)) where
-  abbrev l : List Entry
-  l = rwEntries count first
-
+module _ {count : ℕ} {first : List ℕ} {all : ℕ} (d : Listed count first all) {n : ℕ} {mark : Mark} (r : Passed count first n mark) (h : n < length (rwEntries count first)) where
   abbrev e : Entry
   e = getD (rwEntries count first) n nothing
+
+  law : Marked (maskBytes count) first 0 (rwEntries count first)
+  law = marked count first (d .last) (d .ok) false
 
   in-map : n < mapOf count first (d .last) .rwCount
   unfolding mapOf
@@ -47,33 +47,14 @@ module _ {count : ℕ} {first : List ℕ} {all : ℕ} (d : Listed count first al
       rw (← in-rw count first (d .last) (d .ok) n in-map)
       (entry-ends (mapOf count first (d .last)) (map-good count first (d .last) (d .ok)) 2 n (rw-held (mapOf count first (d .last)) (map-good count first (d .last) (d .ok)) 2 n in-map))
 
-  sum-is : e .offset ≡ sum
-  sum-is = rw-offset count first (d .last) (d .ok) n in-map ∙ r .space
+  pub passed-place : mark .at ≤ 120
+  passed-place = rw (r .is) (law .on n h .place)
 
-  at-is : e .start ≡ at
-  at-is = both-ways count first (d .last) (d .ok) .rw-fills .starts n h ∙ r .place
+  pub passed-entry : entryAt (maskBytes count) first (mark .at) (mark .sum) ≡ getD (rwEntries count first) n nothing
+  passed-entry = rw (r .is, law .stands n h) (sym (law .heads n h .says))
 
-  -- no sum passes what it may
-  pub passed-small : (at + e .length ≤ 120) × (sum + e .memory ≤ 256)
-  passed-small = (
-    omega (
-      arith,
-      lengths-next (rwEntries count first) n h,
-      lengths-most (rwEntries count first) (suc n),
-      both-ways count first (d .last) (d .ok) .rw-fills .ends,
-      strings-short count first (d .last) (d .ok) .0,
-      r .place,
-    ),
-    omega (arith, sum-is, ends),
-  )
-
-  pub passed-entry : entryAt (maskBytes count) first (standingAt at sum) ≡ getD (rwEntries count first) n nothing
-  passed-entry = rw (← at-is, ← sum-is) (sym (both-ways count first (d .last) (d .ok) .rw-fills .says n h))
-
-  pub passed-next : Passed (rwEntries count first) (n + 1) (at + e .length) (sum + e .memory)
-  passed-next =
-      rw (add-one n)
-      (record { few = h; place = omega (arith, lengths-next (rwEntries count first) n h, r .place); space = omega (arith, total-next (rwEntries count first) n h, r .space) })
+  pub passed-next : Passed count first (n + 1) (pastOr (maskBytes count) first mark)
+  passed-next = rw (add-one n) (record { few = h; is = ap (pastOr (maskBytes count) first) (r .is) ∙ past-next law n h })
 
   pub passed-spread : Spread (fieldsOf (getD (rwEntries count first) n nothing))
   passed-spread = record { whole = good .width; inside = omega (arith, good .room, ends) }

@@ -16,7 +16,8 @@ use crate::plan::Chosen;
 use crate::plan::Fields;
 use crate::plan::copies;
 use crate::plan::fields_at;
-use descriptor::byte_from;
+use descriptor::Mark;
+use descriptor::advance;
 use descriptor::mask_bytes;
 use rules::ACTIVE_END;
 use rules::ACTIVE_START;
@@ -136,13 +137,11 @@ pub fn copy_all(
 {
     let a = mask_bytes(chosen.count);
     let mut number = 0;
-    let mut at = 0;
-    let mut sum = 0;
+    let mut mark = Mark { at: 0, sum: 0 };
     while number < entries {
-        let f = fields_at(classes, rows, values, a, rw, at, sum);
+        let f = fields_at(classes, rows, values, a, rw, mark.at, mark.sum);
         copy_chosen(chosen, apps, f, bank);
         number += 1;
-        sum += byte_from(rw, at + 2 + a);
-        at += byte_from(rw, at + 1);
+        mark = advance(a, rw, mark);
     }
 }

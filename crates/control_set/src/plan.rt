@@ -7,11 +7,12 @@ ghost use Rattle.rules.specs.Load.{rwEntries};
 ghost use Rattle.rules.specs.Layout.{bankSize};
 ghost use Rattle.rules.specs.Refuse.{chooses};
 ghost use Rattle.rules.specs.Bank.{appSelIn};
-ghost use Rattle.descriptor.specs.Wide.{standingAt};
 ghost use Rattle.descriptor.specs.Rows.{Tables, classes as classTable};
 ghost use Rattle.control_set.specs.Plan.{Asked, Listed, Spread, Wants, joinedBy, fieldsOf, copiesBy, lacksBy, badAt, badIn, badAmong, Least};
 use crate::bank::app_sel_at;
 use crate::bank::read_field;
+use descriptor::Mark;
+use descriptor::advance;
 use descriptor::byte_from;
 use descriptor::listed_from;
 use descriptor::mask_bytes;
@@ -68,7 +69,7 @@ pub fn fields_at(
 ) -> Fields
     requires { ⌜ Tables (now classes) (now rows) (now values) ⌝ }
     requires { ⌜ (1 ≤ a) × (a ≤ 2) × (at ≤ 120) ⌝ }
-    ensures { λ r. ⌜ r ≡ fieldsOf (entryAt a (now (s .entry)) (standingAt at offset)) ⌝ }
+    ensures { λ r. ⌜ r ≡ fieldsOf (entryAt a (now (s .entry)) at offset) ⌝ }
 {
     let class = class_of(classes, byte_from(s, at));
     let row = rows[class];
@@ -251,14 +252,12 @@ pub fn lowest_bad(
     let a = mask_bytes(chosen.count);
     let mut lowest = 9;
     let mut number = 0;
-    let mut at = 0;
-    let mut sum = 0;
+    let mut mark = Mark { at: 0, sum: 0 };
     while number < entries {
-        let f = fields_at(classes, rows, values, a, rw, at, sum);
+        let f = fields_at(classes, rows, values, a, rw, mark.at, mark.sum);
         lowest = lowest_in_entry(chosen, apps, f, lowest, bank);
         number += 1;
-        sum += byte_from(rw, at + 2 + a);
-        at += byte_from(rw, at + 1);
+        mark = advance(a, rw, mark);
     }
     lowest
 }

@@ -11,6 +11,6 @@ use Rattle.rules.specs.Load.{start, intoRO, walkOf, sized, loadOf}
 use Rattle.rules.proofs.Loads.{load-strings, strings-accepted}
 
 module _ (count : ℕ) (first last : List ℕ) (fine : sized count first last ≡ true) (m e : State)
-    (p : walkOf false (maskBytes count) first start ≡ ended m) (q : walkOf true (maskBytes count) last (intoRO m) ≡ ended e) where
+    (p : walkOf false (maskBytes count) first 0 start ≡ ended m) (q : walkOf true (maskBytes count) last 0 (intoRO m) ≡ ended e) where
   pub both-load : loadOf count first last ≡ accepted (m .number) (e .number - m .number) (m .sum) (e .sum)
   both-load = load-strings count first last fine ∙ strings-accepted count first last m p e q

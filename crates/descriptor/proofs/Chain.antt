@@ -16,13 +16,13 @@ use Rattle.descriptor.specs.Rows.{sideIn, partsIn, neededIn, extrasIn}
 use Rattle.descriptor.specs.Steps.{steppedOf, stepBy, standsBy, Standing}
 use Rattle.descriptor.proofs.TableRows.{row, sideNumber, extrasNumber, Row}
 
-pub pass : (st : State) (n : ℕ) (d : Decoded) {b : Bool} {r : Stepped} → b ≡ false → r ≡ steppedOf st d → r ≡ steppedOf st (refuse b n d)
+pub pass : (at : ℕ) (st : State) (n : ℕ) (d : Decoded) {b : Bool} {r : Stepped} → b ≡ false → r ≡ steppedOf at st d → r ≡ steppedOf at st (refuse b n d)
 unfolding refuse
-pass st n d e h = rw e h
+pass at st n d e h = rw e h
 
-pub stop : (st : State) (n : ℕ) (d : Decoded) {b : Bool} → b ≡ true → stops n ≡ steppedOf st (refuse b n d)
+pub stop : (at : ℕ) (st : State) (n : ℕ) (d : Decoded) {b : Bool} → b ≡ true → stops n ≡ steppedOf at st (refuse b n d)
 unfolding refuse
-stop st n d e = rw e
+stop at st n d e = rw e
 
 -- an ID may stand in a string as the number of its side says
 stands : (x : Side) (ro : Bool) → standsBy (sideNumber x) ro ≡ mayStand x ro
@@ -40,9 +40,9 @@ step-by codes s at = refl
 step-by indexCodes s at = refl
 step-by indexStep s at = refl
 
-module _ {line a : ℕ} {s : List ℕ} {st : State} (g : Standing line a s st) where
+module _ {line a : ℕ} {s : List ℕ} {at : ℕ} {st : State} (g : Standing line a s at st) where
   abbrev id : ℕ
-  id = byteAt s (st .at)
+  id = byteAt s at
 
   is : Row id line
   is = rw (g .row-is) (row id)
@@ -51,13 +51,13 @@ module _ {line a : ℕ} {s : List ℕ} {st : State} (g : Standing line a s st) w
   side-is ro = rw (is .side) (stands (rowOf id .side) ro)
 
   -- MemoryLength, PropertyFlags and step are in the string
-  pub memory-in : st .at + 2 + a < length s
+  pub memory-in : at + 2 + a < length s
   memory-in = omega (arith, is .room, g .room)
 
-  pub flags-in : 0 < partsIn line → st .at + 3 + a < length s
+  pub flags-in : 0 < partsIn line → at + 3 + a < length s
   flags-in l = omega (arith, is .flags l, g .room)
 
-  pub step-in : 2 < extrasIn line → st .at + 4 + a + 1 < length s
+  pub step-in : 2 < extrasIn line → at + 4 + a + 1 < length s
   step-in l = omega (arith, is .step l, g .room)
 
   pub media-is : (flags : ℕ) → mediaSide (partsIn line) flags ≡ mediaSide (rowOf id .parts) flags

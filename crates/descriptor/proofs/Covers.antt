@@ -18,14 +18,14 @@ use Rattle.rules.specs.Demands.{Accepted}
 use Rattle.rules.proofs.Tests.{and-no, and₂, from-true}
 use Rattle.rules.proofs.Good.{Good, starts}
 use Rattle.rules.proofs.Walks.{map-good}
-use Rattle.rules.proofs.EntryHeads.{Head, strings-short, length-most, few-entries, rw-head, ro-head}
+use Rattle.rules.proofs.EntryHeads.{Head, strings-short, length-most, few-entries}
 use Rattle.rules.proofs.Orders.{order-refused, order-accepted}
 use Rattle.descriptor.specs.declared.Covered.{Covered}
 use Rattle.descriptor.specs.declared.Covered.the-variants.{By as by, Nothing as noEntry, Refused as notCovered}
 use Rattle.descriptor.specs.Cover.{spans, coverIndex, coverIn, coverOf, Hits}
-use Rattle.descriptor.specs.Seek.{markAfter, Seeking}
+use Rattle.descriptor.specs.Marks.{Passable}
 use Rattle.descriptor.specs.declared.search.Hit.{Hit}
-use Rattle.descriptor.proofs.Seeks.{Counted, counted, markOf, seek-rw, seeking-rw, seek-ro, seeking-ro, sum-staged, sum-active}
+use Rattle.descriptor.proofs.Marks.{markOf, accepts, rw-count, all-count, active-is, passable, entry-stands, entry-heads, string-ends}
 
 -- coverIndex
 
@@ -153,16 +153,8 @@ module _ (count : ℕ) (first last : List ℕ) (k n c d t : ℕ) (h : loadOf cou
   abbrev p : Map
   p = mapOf count first last
 
-  z : Counted count first last n c d t
-  z = counted count first last n c d t h
-
-  pub seeks-first : Seeking (maskBytes count) first 0 n
-  seeks-first = rw (z .rw-is) at (seeking-rw count first last (z .ok) (p .rwCount) (omega arith))
-
-  pub seeks-last : Seeking (maskBytes count) last d c
-  seeks-last =
-      let l : length (p .entries) - p .rwCount ≡ c = omega (arith, z .rw-is, z .all-is) in
-      rw (l, z .staged-is) at (seeking-ro count first last (z .ok) (length (p .entries)) (omega (arith, z .rw-is, z .all-is)) (omega arith))
+  ok : Accepted count first last
+  ok = accepts count first last n c d t h
 
   -- the entry that covers the byte, from the bytes where it stands
   covers-at :
@@ -180,54 +172,59 @@ module _ (count : ℕ) (first last : List ℕ) (k n c d t : ℕ) (h : loadOf cou
       let id : entry p e .id ≡ byteAt s (entry p e .start) = ap (λ x. x .id) (w .says) in
       let memory : entry p e .memory ≡ byteAt s (entry p e .start + 2 + maskBytes count) = ap (λ x. x .memory) (w .says) in
       let y : k < entry p e .offset + entry p e .memory = rw (memory, a, b) top in
-      let j : coverIndex (p .entries) k ≡ e = index-is 0 (p .entries) e k (map-good count first last (z .ok) .list) l (omega arith) y in (
+      let j : coverIndex (p .entries) k ≡ e = index-is 0 (p .entries) e k (map-good count first last ok .list) l (omega arith) y in (
         omega (arith, w .room),
-        rw (← a, ← b, ← id) (sym (rw (j, lt-ltb e (length (p .entries)) l) refl)) ∙ cover-accepted count first last k (z .ok),
+        rw (← a, ← b, ← id) (sym (rw (j, lt-ltb e (length (p .entries)) l) refl)) ∙ cover-accepted count first last k ok,
       )
 
-  module _ {x : Hit} (f : Hits (maskBytes count) first 0 n k x) where
-    pub covers-first : x .number < n → (x .at < length first) × (by false (x .number) (byteAt first (x .at)) (x .sum) ≡ coverOf count first last k)
-    covers-first l =
-        let u : x .number < p .rwCount = rw (z .rw-is) l in
-        let v = covers-at (x .number) (omega (arith, z .all-is)) (rw-head count first last (z .ok) (x .number) u) (sym (seek-rw count first last (z .ok) (x .number) u) ∙ f .is) (f .low) (f .top l) in
-        rw (lt-ltb (x .number) (p .rwCount) u) at v
+  module _ (inRO : Bool) where
+    pub covers-seeks : Passable (maskBytes count) (cond inRO last first) (cond inRO d 0) (cond inRO c n)
+    covers-seeks = passable count first last n c d t h inRO (cond inRO c n) (omega arith)
 
-    -- none: the byte lies past the staged length
-    pub past-first : n ≤ x .number → d ≤ k
-    past-first l =
-        let y : x .number ≡ p .rwCount = omega (arith, f .few, z .rw-is) in
-        let v : x .sum ≡ d = sym (ap (λ i. i .sum) (f .is)) ∙ rw y (sum-staged count first last (z .ok)) ∙ z .staged-is in
-        omega (arith, f .low)
-
-  module _ {x : Hit} (f : Hits (maskBytes count) last d c k x) where
-    abbrev e : ℕ
-    e = n + x .number
-
-    pub covers-last : x .number < c → (x .at < length last) × (by true (n + x .number) (byteAt last (x .at)) (x .sum) ≡ coverOf count first last k) × (n + x .number ≤ 240)
-    covers-last l =
-        let u : p .rwCount ≤ e = omega (arith, z .rw-is) in
-        let g : e < length (p .entries) = omega (arith, z .all-is) in
-        let y : e - p .rwCount ≡ x .number = omega (arith, z .rw-is) in
-        let s : markAfter (maskBytes count) last d (x .number) ≡ markOf (entry p e) = rw (y, z .staged-is) at (seek-ro count first last (z .ok) e u g) in
-        let v = rw (le-ltb e (p .rwCount) u) at (covers-at e g (ro-head count first last (z .ok) e u g) (sym s ∙ f .is) (f .low) (f .top l)) in
-        (v .0, v .1, omega (arith, few-entries count first last (z .ok), strings-short count first last (z .ok)))
-
-    -- none: the byte lies past every set
-    pub covers-none : c ≤ x .number → noEntry ≡ coverOf count first last k
-    unfolding coverIn heldBy lengthOf
-    covers-none l = go (ltb (coverIndex (p .entries) k) (length (p .entries))) refl ∙ cover-accepted count first last k (z .ok)
+    -- the number of entry i of the string
+    in-string : (i : ℕ) → i < cond inRO c n → (cond inRO (n + i) i < length (p .entries)) × (not (isRW p (cond inRO (n + i) i)) ≡ inRO)
+    in-string i = go inRO
       where
-        past : p .active ≤ k
-        past =
-            let y : p .rwCount + x .number ≡ length (p .entries) = omega (arith, f .few, z .rw-is, z .all-is) in
-            let s : markAfter (maskBytes count) last d (x .number) .sum ≡ p .active = rw (z .staged-is) at (sum-active count first last (z .ok) (x .number) y) in
-            omega (arith, f .low, ap (λ i. i .sum) (f .is))
+        go : (b : Bool) → i < cond b c n → (cond b (n + i) i < length (p .entries)) × (not (isRW p (cond b (n + i) i)) ≡ b)
+        go true l = (
+          omega (arith, all-count count first last n c d t h),
+          rw (le-ltb (n + i) (p .rwCount) (omega (arith, rw-count count first last n c d t h))) refl,
+        )
+        go false l = (
+          omega (arith, all-count count first last n c d t h),
+          rw (lt-ltb i (p .rwCount) (omega (arith, rw-count count first last n c d t h))) refl,
+        )
 
-        go : (b : Bool) → ltb (coverIndex (p .entries) k) (length (p .entries)) ≡ b
-            → noEntry ≡ cond b (by (not (isRW p (coverIndex (p .entries) k))) (coverIndex (p .entries) k) (entry p (coverIndex (p .entries) k) .id) (entry p (coverIndex (p .entries) k) .offset)) noEntry
-        go true q =
-            let i = coverIndex (p .entries) k in
-            let u : i < length (p .entries) = ltb-true i (length (p .entries)) q in
-            let (_, y) = and₂ (leb (entry p i .offset) k) (ltb k (entry p i .offset + entry p i .memory)) (from-true (index-spans (p .entries) k u)) in
-            absurd (omega (arith, past, ltb→lt k (entry p i .offset + entry p i .memory) y, map-good count first last (z .ok) .ends 2 i u))
-        go false q = refl
+    module _ {x : Hit} (f : Hits (maskBytes count) (cond inRO last first) (cond inRO d 0) (cond inRO c n) k x) where
+      pub covers-found :
+          x .number < cond inRO c n
+          → (x .at < length (cond inRO last first))
+          × (by inRO (cond inRO (n + x .number) (x .number)) (byteAt (cond inRO last first) (x .at)) (x .sum) ≡ coverOf count first last k)
+          × (cond inRO (n + x .number) (x .number) ≤ 240)
+      covers-found l =
+          let (u, v) = in-string (x .number) l in
+          let e = cond inRO (n + x .number) (x .number) in
+          let q = sym (entry-stands count first last n c d t h inRO (x .number) l) ∙ f .is in
+          let (y, w) = covers-at e u (entry-heads count first last n c d t h inRO (x .number) l) q (f .low) (f .top l) in
+          (y, rw v at w, omega (arith, few-entries count first last ok, strings-short count first last ok))
+
+      -- none: the byte lies past the spaces of the string
+      pub covers-past : cond inRO c n ≤ x .number → cond inRO t d ≤ k
+      covers-past l =
+          let y : x .number ≡ cond inRO c n = omega (arith, f .few) in
+          let v : x .sum ≡ cond inRO t d = sym (ap (λ i. i .sum) (f .is)) ∙ rw y (string-ends count first last n c d t h inRO) in
+          omega (arith, f .low)
+
+  -- none in either string
+  pub covers-none : t ≤ k → noEntry ≡ coverOf count first last k
+  unfolding coverIn heldBy lengthOf
+  covers-none past = go (ltb (coverIndex (p .entries) k) (length (p .entries))) refl ∙ cover-accepted count first last k ok
+    where
+      go : (b : Bool) → ltb (coverIndex (p .entries) k) (length (p .entries)) ≡ b
+          → noEntry ≡ cond b (by (not (isRW p (coverIndex (p .entries) k))) (coverIndex (p .entries) k) (entry p (coverIndex (p .entries) k) .id) (entry p (coverIndex (p .entries) k) .offset)) noEntry
+      go true q =
+          let i = coverIndex (p .entries) k in
+          let u : i < length (p .entries) = ltb-true i (length (p .entries)) q in
+          let (_, y) = and₂ (leb (entry p i .offset) k) (ltb k (entry p i .offset + entry p i .memory)) (from-true (index-spans (p .entries) k u)) in
+          absurd (omega (arith, active-is count first last n c d t h, ltb→lt k (entry p i .offset + entry p i .memory) y, map-good count first last ok .ends 2 i u))
+      go false q = refl

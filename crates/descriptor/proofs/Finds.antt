@@ -19,7 +19,6 @@ use Rattle.descriptor.specs.declared.Located.the-variants.{At as at, Ref
 use Rattle.descriptor.specs.declared.Named.{Named}
 use Rattle.descriptor.specs.declared.Found.the-variants.{In as isIn, Refused as notFound}
 use Rattle.descriptor.specs.Locate.{located, locatedOf}
-use Rattle.descriptor.specs.Wide.{standingAt}
 use Rattle.descriptor.specs.Find.{mostBy, namedOf, InMap, found, toldOrder, foundOf}
 
 -- what is found of it
@@ -95,12 +94,12 @@ module _ (count : ℕ) (first last : List ℕ) (short : Bool) (e : ℕ) where
 
     -- the bytes at its start say what it is
     module _ (x : Bool) (s n o : ℕ) (h : locatedOf count first last e ≡ at x s n o) where
-      pub located-found : (isIn (namedOf x (entryAt (maskBytes count) (cond x last first) (standingAt s o))) ≡ foundOf count first last short e) × (s ≤ 120)
+      pub located-found : (isIn (namedOf x (entryAt (maskBytes count) (cond x last first) s o)) ≡ foundOf count first last short e) × (s ≤ 120)
       unfolding locatedOf
       located-found = let z = go (entryVerdict count first last e) refl h in (z .0 ∙ sym verdict, z .1)
         where
           side : (b : Bool) → Head (maskBytes count) (cond b first last) (entry m e)
-              → (isIn (namedOf (not b) (entryAt (maskBytes count) (cond (not b) last first) (standingAt (entry m e .start) (entry m e .offset)))) ≡ isIn (namedOf (not b) (entry m e)))
+              → (isIn (namedOf (not b) (entryAt (maskBytes count) (cond (not b) last first) (entry m e .start) (entry m e .offset))) ≡ isIn (namedOf (not b) (entry m e)))
               × (entry m e .start + 2 + maskBytes count < length (cond b first last))
           side true d = (ap (λ y. isIn (namedOf false y)) (sym (d .says)), d .room)
           side false d = (ap (λ y. isIn (namedOf true y)) (sym (d .says)), d .room)
@@ -111,7 +110,7 @@ module _ (count : ℕ) (first last : List ℕ) (short : Bool) (e : ℕ) where
 
           go : (v : Verdict) → entryVerdict count first last e ≡ v
               → located v (at (not (isRW m e)) (entry m e .start) (entry m e .length) (entry m e .offset)) ≡ at x s n o
-              → (isIn (namedOf x (entryAt (maskBytes count) (cond x last first) (standingAt s o))) ≡ found v (isIn (namedOf (not (isRW m e)) (entry m e)))) × (s ≤ 120)
+              → (isIn (namedOf x (entryAt (maskBytes count) (cond x last first) s o)) ≡ found v (isIn (namedOf (not (isRW m e)) (entry m e)))) × (s ≤ 120)
           go passes p q =
               let a : not (isRW m e) ≡ x = cc in
               let b : entry m e .start ≡ s = cc in

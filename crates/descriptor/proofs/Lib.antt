@@ -5,7 +5,7 @@ pub mod Accepts
 pub mod Chain
 pub mod Scan
 pub mod Both
-pub mod Seeks
+pub mod Marks
 pub mod Locates
 pub mod Wides
 pub mod Finds

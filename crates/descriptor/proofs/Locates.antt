@@ -1,5 +1,5 @@
 -- The laws of `locatedOf`, one for each way out.
-use mathlib.Core.Path.{_≡_, refl, ap, _∙_}
+use mathlib.Core.Path.{_≡_, refl, sym, ap, _∙_}
 use mathlib.Core.Bool.{Bool, true, false, not, cond}
 use mathlib.Core.List.{List, []}
 use Prim.Native.Nat.{ℕ, _+_, _-_, _≤_, _<_}
@@ -17,14 +17,14 @@ use Rattle.rules.specs.Refuse.{Verdict, passes, refuses}
 use Rattle.rules.specs.Beside.{entryVerdict, answered, entryAnswer, ownBytes, partOr, entryBytes}
 use Rattle.rules.specs.Demands.{Accepted}
 use Rattle.rules.proofs.Orders.{order-refused, order-accepted}
-use Rattle.rules.proofs.EntryHeads.{rw-head, ro-head}
+use Rattle.rules.proofs.EntryHeads.{Head}
 use Rattle.rules.proofs.EntryParts.{entry-part, verdict-passes}
-use Rattle.descriptor.specs.declared.search.Mark.{Mark}
+use Rattle.descriptor.specs.declared.Mark.{Mark}
 use Rattle.descriptor.specs.declared.Located.{Located}
 use Rattle.descriptor.specs.declared.Located.the-variants.{At as at, Refused as nowhere}
 use Rattle.descriptor.specs.Locate.{located, locatedOf}
-use Rattle.descriptor.specs.Seek.{markAfter, Seeking}
-use Rattle.descriptor.proofs.Seeks.{Counted, counted, markOf, seek-rw, seeking-rw, seek-ro, seeking-ro}
+use Rattle.descriptor.specs.Marks.{markAfter, Passable}
+use Rattle.descriptor.proofs.Marks.{markOf, accepts, rw-count, all-count, passable, entry-stands, entry-heads}
 
 module _ (count : ℕ) (first last : List ℕ) (e : ℕ) where
   pub located-refused : (r : Refusal) → loadOf count first last ≡ rejected r → nowhere r ≡ locatedOf count first last e
@@ -32,62 +32,54 @@ module _ (count : ℕ) (first last : List ℕ) (e : ℕ) where
   located-refused r h = rw (order-refused count first last r h _) refl
 
   module _ (n k c t : ℕ) (h : loadOf count first last ≡ accepted n k c t) where
-    z : Counted count first last n k c t
-    z = counted count first last n k c t h
-
     ok : Accepted count first last
-    ok = z .ok
+    ok = accepts count first last n k c t h
 
     verdict-found : e < n + k → entryVerdict count first last e ≡ passes
     unfolding entryVerdict
-    verdict-found l = order-accepted count first last ok _ ∙ rw (lt-ltb e (length (mapOf count first last .entries)) (rw (z .all-is) l)) refl
+    verdict-found l = order-accepted count first last ok _ ∙ rw (lt-ltb e (length (mapOf count first last .entries)) (rw (all-count count first last n k c t h) l)) refl
 
-    module _ (l : e < n) where
-      here : e < mapOf count first last .rwCount
-      here = rw (z .rw-is) l
+    -- entry i of a string
+    module _ (inRO : Bool) (i : ℕ) (l : i < cond inRO k n) (q : e ≡ cond inRO (n + i) i) where
+      found : entryVerdict count first last e ≡ passes
+      found = verdict-found (go inRO l q)
+        where
+          go : (b : Bool) → i < cond b k n → e ≡ cond b (n + i) i → e < n + k
+          go true u p = omega arith
+          go false u p = omega arith
 
-      pub seeks-rw : Seeking (maskBytes count) first 0 e
-      seeks-rw = seeking-rw count first last ok e (omega (arith, here))
+      side : not (isRW (mapOf count first last) e) ≡ inRO
+      side = go inRO l q
+        where
+          go : (b : Bool) → i < cond b k n → e ≡ cond b (n + i) i → not (isRW (mapOf count first last) e) ≡ b
+          go true u p = rw (le-ltb e (mapOf count first last .rwCount) (rw (rw-count count first last n k c t h) (omega arith))) refl
+          go false u p = rw (lt-ltb e (mapOf count first last .rwCount) (rw (rw-count count first last n k c t h) (omega arith))) refl
 
-      module _ (mark : Mark) (q : mark ≡ markAfter (maskBytes count) first 0 e) where
-        -- the entry stands at the mark, with its second byte
-        pub inside-rw : mark .at + 1 < length first
-        inside-rw = rw (q, seek-rw count first last ok e here) (omega (arith, rw-head count first last ok e here .room))
+      head : Head (maskBytes count) (cond inRO last first) (entry (mapOf count first last) e)
+      head = rw q (entry-heads count first last n k c t h inRO i l)
 
-        pub located-rw : at false (mark .at) (byteAt first (mark .at + 1)) (mark .sum) ≡ locatedOf count first last e
-        unfolding locatedOf
-        located-rw =
-            let x = entry (mapOf count first last) e in
-            let y : x .length ≡ byteAt first (x .start + 1) = ap (λ i. i .length) (rw-head count first last ok e here .says) in
-            rw (verdict-found (omega arith), lt-ltb e (mapOf count first last .rwCount) here, q, seek-rw count first last ok e here, ← y) refl
+      pub located-seeks : Passable (maskBytes count) (cond inRO last first) (cond inRO c 0) i
+      located-seeks = passable count first last n k c t h inRO i (omega arith)
 
-    module _ (l : n ≤ e) (u : e < n + k) where
-      past-rw : mapOf count first last .rwCount ≤ e
-      past-rw = rw (z .rw-is) l
-
-      there : e < length (mapOf count first last .entries)
-      there = rw (z .all-is) u
-
-      pub seeks-ro : Seeking (maskBytes count) last c (e - n)
-      seeks-ro = rw (z .rw-is, z .staged-is) at (seeking-ro count first last ok e past-rw (omega (arith, there)))
-
-      module _ (mark : Mark) (q : mark ≡ markAfter (maskBytes count) last c (e - n)) where
+      module _ (mark : Mark) (p : mark ≡ markAfter (maskBytes count) (cond inRO last first) (cond inRO c 0) i) where
         mark-is : mark ≡ markOf (entry (mapOf count first last) e)
-        mark-is = q ∙ (rw (z .rw-is, z .staged-is) at (seek-ro count first last ok e past-rw there))
+        mark-is = p ∙ entry-stands count first last n k c t h inRO i l ∙ ap (λ x. markOf (entry (mapOf count first last) x)) (sym q)
 
-        pub inside-ro : mark .at + 1 < length last
-        inside-ro = rw mark-is (omega (arith, ro-head count first last ok e past-rw there .room))
+        -- the entry stands at the mark, with its second byte
+        pub located-inside : mark .at + 1 < length (cond inRO last first)
+        located-inside = rw mark-is (omega (arith, head .room))
 
-        pub located-ro : at true (mark .at) (byteAt last (mark .at + 1)) (mark .sum) ≡ locatedOf count first last e
+        pub located-at : at inRO (mark .at) (byteAt (cond inRO last first) (mark .at + 1)) (mark .sum) ≡ locatedOf count first last e
         unfolding locatedOf
-        located-ro =
+        located-at =
             let x = entry (mapOf count first last) e in
-            let y : x .length ≡ byteAt last (x .start + 1) = ap (λ i. i .length) (ro-head count first last ok e past-rw there .says) in
-            rw (verdict-found u, le-ltb e (mapOf count first last .rwCount) past-rw, mark-is, ← y) refl
+            let y : x .length ≡ byteAt (cond inRO last first) (x .start + 1) = ap (λ i. i .length) (head .says) in
+            rw (found, side, mark-is, ← y) refl
 
     pub located-10 : n + k ≤ e → nowhere (plain 10) ≡ locatedOf count first last e
     unfolding locatedOf entryVerdict
-    located-10 l = rw (order-accepted count first last ok _, le-ltb e (length (mapOf count first last .entries)) (rw (z .all-is) l)) refl
+    located-10 l =
+        rw (order-accepted count first last ok _, le-ltb e (length (mapOf count first last .entries)) (rw (all-count count first last n k c t h) l)) refl
 
   -- the entry call's answer, from where its entry stands
   pub located-yes : (x : Bool) (s l o : ℕ) → locatedOf count first last e ≡ at x s l o → saysYes ≡ entryAnswer count first last e

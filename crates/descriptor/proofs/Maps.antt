@@ -42,23 +42,23 @@ module _ (count : ℕ) (first last : List ℕ) (ok : Accepted count first last) 
       record { rw = leb→le (length first) 120 z; ro = leb→le (length last) 120 w }
 
   module _ {at₁ r₁ : ℕ} {b₁ b₂ : List ℕ} {m : State} (one : Listing false (maskBytes count) first start at₁ b₁ r₁ m b₂) where
-    to-middle : walkOf false (maskBytes count) first start ≡ ended m
+    to-middle : walkOf false (maskBytes count) first 0 start ≡ ended m
     to-middle = loaded .rw-ends ∙ ap ended (sym (one .ends (loaded .middle) (loaded .rw-ends)))
 
     pub middle : Middle m
     middle =
-        let (x, y, z) = walk-counts false (maskBytes count) first start m (omega arith) to-middle in
+        let (x, y, z) = walk-counts false (maskBytes count) first 0 start m (omega arith) to-middle in
         record { number = omega (arith, sizes .rw); sum = z }
 
     module _ {r₂ : ℕ} {b₃ : List ℕ} {e : State} (two : Listing true (maskBytes count) last (intoRO m) r₁ b₂ r₂ e b₃) where
-      to-end : walkOf true (maskBytes count) last (intoRO m) ≡ ended e
+      to-end : walkOf true (maskBytes count) last 0 (intoRO m) ≡ ended e
       to-end =
           let q : loaded .middle ≡ m = sym (one .ends (loaded .middle) (loaded .rw-ends)) in
-          let w : walkOf true (maskBytes count) last (intoRO m) ≡ ended (loaded .end) = rw q at (loaded .ro-ends) in
+          let w : walkOf true (maskBytes count) last 0 (intoRO m) ≡ ended (loaded .end) = rw q at (loaded .ro-ends) in
           w ∙ ap ended (sym (two .ends (loaded .end) w))
 
       pub end-sum : e .sum ≤ 256
-      end-sum = walk-counts true (maskBytes count) last (intoRO m) e (middle .sum) to-end .2
+      end-sum = walk-counts true (maskBytes count) last 0 (intoRO m) e (middle .sum) to-end .2
 
       -- heading, both strings' lines and end, one after the other
       pub map-printed :

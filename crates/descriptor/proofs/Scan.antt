@@ -2,7 +2,7 @@
 use mathlib.Core.Path.{_≡_, refl}
 use mathlib.Core.Bool.{Bool}
 use mathlib.Core.List.{List}
-use Prim.Native.Nat.{ℕ, _≤_, _<_}
+use Prim.Native.Nat.{ℕ, _+_, _≤_, _<_}
 use native.Mathlib.Omega.{arith}
 use lib.ListN.{length}
 use Rattle.rules.specs.declared.Entry.{Entry}
@@ -21,32 +21,39 @@ use Rattle.descriptor.specs.Steps.{steppedOf}
 use Rattle.descriptor.specs.Walks.{stoppedOf}
 
 -- what a step that goes past an entry says of its decode
-pub record Went (st : State) (d : Decoded) (after : State) : Type 0 where
+pub record Went (at : ℕ) (st : State) (d : Decoded) (place : ℕ) (after : State) : Type 0 where
   pub e : Entry
   pub decodes : d ≡ decoded e
-  pub to : after ≡ next st e
+  pub to : place ≡ at + e .length
+  pub keeps : after ≡ next st e
 
-pub went : (st : State) (d : Decoded) (after : State) → steppedOf st d ≡ past after → Went st d after
-went st (decoded e) after h = record { e = e; decodes = refl; to = cc }
-went st (failed n) after h = let o : _≡_ {A = ℕ} 0 1 = cc in absurd (omega arith)
+pub went : (at : ℕ) (st : State) (d : Decoded) (place : ℕ) (after : State) → steppedOf at st d ≡ past place after → Went at st d place after
+went at st (decoded e) place after h = record { e = e; decodes = refl; to = cc; keeps = cc }
+went at st (failed n) place after h = let o : _≡_ {A = ℕ} 0 1 = cc in absurd (omega arith)
 
 -- a step that refuses ends the walk with its entry's number
-pub halts : (st : State) (d : Decoded) (x : Stepped) (n : ℕ) (r : State → Walked) → x ≡ steppedOf st d → x ≡ stops n → stoppedOf x (st .number) ≡ onward d st r
-halts st (decoded e) x n r p q = let o : _≡_ {A = ℕ} 0 1 = cc in absurd (omega arith)
-halts st (failed k) x n r p q = rw p refl
+pub halts :
+    (at : ℕ) (st : State) (d : Decoded) (x : Stepped) (n : ℕ) (r : Entry → Walked)
+    → x ≡ steppedOf at st d
+    → x ≡ stops n
+    → stoppedOf x (st .number) ≡ onward d st r
+halts at st (decoded e) x n r p q = let o : _≡_ {A = ℕ} 0 1 = cc in absurd (omega arith)
+halts at st (failed k) x n r p q = rw p refl
 
-pub record Scanning (ro : Bool) (a : ℕ) (s : List ℕ) (st₀ st : State) : Type 0 where
-  pub folded : Folded onward ended ro a s st₀ st
+pub record Scanning (ro : Bool) (a : ℕ) (s : List ℕ) (at₀ : ℕ) (st₀ : State) (at : ℕ) (st : State) : Type 0 where
+  pub folded : Folded onward ended ro a s at₀ st₀ at st
   pub sum : st .sum ≤ 256
 
-pub scan-begin : (ro : Bool) (a : ℕ) (s : List ℕ) (st : State) → st .sum ≤ 256 → Scanning ro a s st st
-scan-begin ro a s st h = record { folded = begin onward ended ro a s st; sum = h }
+pub scan-begin : (ro : Bool) (a : ℕ) (s : List ℕ) (at : ℕ) (st : State) → st .sum ≤ 256 → Scanning ro a s at st at st
+scan-begin ro a s at st h = record { folded = begin onward ended ro a s at st; sum = h }
 
 pub scan-turn :
-    {ro : Bool} {a : ℕ} {s : List ℕ} {st₀ st : State}
-    → Scanning ro a s st₀ st
-    → st .at < length s
-    → (e : Entry)
-    → decodeAt ro a s st ≡ decoded e
-    → Scanning ro a s st₀ (next st e)
-scan-turn {ro} {a} {s} {st₀} {st} k h e d = record { folded = turn (k .folded) h e d (λ _. refl); sum = decode-passed ro a s st e d .sum }
+    {ro : Bool} {a : ℕ} {s : List ℕ} {at₀ : ℕ} {st₀ : State} {at : ℕ} {st : State}
+    → Scanning ro a s at₀ st₀ at st
+    → at < length s
+    → {place : ℕ} {after : State}
+    → Went at st (decodeAt ro a s at st) place after
+    → Scanning ro a s at₀ st₀ place after
+scan-turn {ro} {a} {s} {at₀} {st₀} {at} {st} k h w =
+    rw (w .to, w .keeps)
+    (record { folded = turn (k .folded) h (w .e) (w .decodes) (λ _. refl); sum = decode-passed ro a s at st (w .e) (w .decodes) .sum })

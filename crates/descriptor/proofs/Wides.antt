@@ -14,7 +14,7 @@ use Rattle.rules.proofs.Checks.{high-two}
 use Rattle.descriptor.specs.declared.Named.{Named}
 use Rattle.descriptor.specs.Rows.{rowNumber, valuesNumber, extrasIn, partsIn, widthIn, signedIn}
 use Rattle.descriptor.specs.Steps.{stepBy}
-use Rattle.descriptor.specs.Wide.{codesBy, standingAt}
+use Rattle.descriptor.specs.Wide.{codesBy}
 use Rattle.descriptor.specs.Find.{leastBy, mostBy, listedBy, namedOf}
 use Rattle.descriptor.proofs.TableRows.{row, extrasNumber}
 use Rattle.descriptor.proofs.Accepts.{values-signed}
@@ -46,7 +46,7 @@ pub named-entry :
       listed = listedBy (rowNumber (byteAt s start)) (valuesNumber (byteAt s start)) (codesBy (extrasIn (rowNumber (byteAt s start))) s (start + 4 + a));
       step = stepBy (extrasIn (rowNumber (byteAt s start))) s (start + 4 + a);
     })
-    (namedOf inRO (entryAt a s (standingAt start offset)))
+    (namedOf inRO (entryAt a s start offset))
 unfolding namedOf partsOf widthOf signedOf
 named-entry inRO a s start offset =
     rw (

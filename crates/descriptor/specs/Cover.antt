@@ -13,7 +13,7 @@ use Rattle.rules.specs.Refuse.{Verdict, passes, refuses, orderOf}
 use Rattle.descriptor.specs.declared.Covered.{Covered}
 use Rattle.descriptor.specs.declared.Covered.the-variants.{By as by, Nothing as noEntry, Refused as notCovered}
 use Rattle.descriptor.specs.declared.search.Hit.{Hit}
-use Rattle.descriptor.specs.Seek.{markAfter}
+use Rattle.descriptor.specs.Marks.{markAfter}
 
 -- the space of an entry, offset to offset + MemoryLength; "An entry with MemoryLength 0 covers no byte"
 abbrev pub spans : Entry → ℕ → Bool

@@ -1,9 +1,9 @@
--- What the functions of this crate mean beyond the rules: the rows as they stand in the code, and the step of a walk.
+-- What the functions of this crate mean beyond the rules: the rows as they stand in the code, the step of a walk, and a pass over a string.
 pub mod Rows
 pub mod Steps
 pub mod Walks
 pub mod Locate
-pub mod Seek
+pub mod Marks
 pub mod Wide
 pub mod Find
 pub mod Cover

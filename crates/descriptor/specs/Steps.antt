@@ -15,9 +15,9 @@ use Rattle.descriptor.specs.declared.step.Stepped.the-variants.{Past as 
 use Rattle.descriptor.specs.Rows.{classes, rows, rowNumber, leastIn}
 
 -- what a walk makes of a decode
-abbrev pub steppedOf : State → Decoded → Stepped
-steppedOf st (decoded e) = past (next st e)
-steppedOf st (failed n) = stops n
+abbrev pub steppedOf : ℕ → State → Decoded → Stepped
+steppedOf at st (decoded e) = past (at + e .length) (next st e)
+steppedOf at st (failed n) = stops n
 
 -- the step byte by the number of the extras
 unfoldable pub stepBy : ℕ → List ℕ → ℕ → ℕ
@@ -33,22 +33,22 @@ abbrev pub lateBy : ℕ → Bool → Bool → Bool
 lateBy id media passed = leb 2 id && (leb id 8 && (not media && passed))
 
 -- a place of a string at which a step is made
-pub record Walking (table rowTable : List ℕ) (a : ℕ) (s : List ℕ) (st : State) : Type 0 where
+pub record Walking (table rowTable : List ℕ) (a : ℕ) (s : List ℕ) (at : ℕ) (st : State) : Type 0 where
   pub classes-is : table ≡ classes
   pub table-is : rowTable ≡ rows
   pub mask-low : 1 ≤ a
   pub mask-top : a ≤ 2
-  pub inside : st .at < length s
+  pub inside : at < length s
   pub short : length s ≤ 120
   pub number : st .number ≤ 1000
   pub sum : st .sum ≤ 256
 
 -- the same past 1 and 2, with the row of the entry's ID
-pub record Standing (row a : ℕ) (s : List ℕ) (st : State) : Type 0 where
-  pub row-is : row ≡ rowNumber (byteAt s (st .at))
+pub record Standing (row a : ℕ) (s : List ℕ) (at : ℕ) (st : State) : Type 0 where
+  pub row-is : row ≡ rowNumber (byteAt s at)
   pub mask-low : 1 ≤ a
   pub mask-top : a ≤ 2
-  pub room : st .at + leastIn row + a ≤ length s
+  pub room : at + leastIn row + a ≤ length s
   pub short : length s ≤ 120
   pub number : st .number ≤ 1000
   pub sum : st .sum ≤ 256

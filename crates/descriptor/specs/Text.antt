@@ -28,13 +28,13 @@ abbrev pub entryLine : ℕ → Entry → List ℕ
 entryLine n e = decimal n ++ line (e .id ∷ e .offset ∷ e .memory ∷ [])
 
 -- an entry whose line can be printed
-pub record Printable (a : ℕ) (s : List ℕ) (st : State) : Type 0 where
-  pub inside : st .at + 2 + a < length s
+pub record Printable (a : ℕ) (s : List ℕ) (at : ℕ) (st : State) : Type 0 where
+  pub inside : at + 2 + a < length s
   pub short : length s ≤ 120
   pub number : st .number < 1000
   pub sum : st .sum < 1000
 
 -- the lines of a string are written, each of at most 16 bytes for an entry of at least 4; the state is that of the string's end
-pub record Listing (ro : Bool) (a : ℕ) (s : List ℕ) (start : State) (at : ℕ) (before : List ℕ) (r : ℕ) (end : State) (after : List ℕ) : Type 0 where
-  pub put : Put (4 * length s) at (entryLines (start .number) (entriesFrom ro a s start)) before r after
-  pub ends : (e : State) → walkOf ro a s start ≡ ended e → end ≡ e
+pub record Listing (ro : Bool) (a : ℕ) (s : List ℕ) (begin : State) (at : ℕ) (before : List ℕ) (r : ℕ) (end : State) (after : List ℕ) : Type 0 where
+  pub put : Put (4 * length s) at (entryLines (begin .number) (entriesFrom ro a s 0 begin)) before r after
+  pub ends : (e : State) → walkOf ro a s 0 begin ≡ ended e → end ≡ e

@@ -1,6 +1,5 @@
 -- A walk of one string: what it is given, and how it ends at an entry that fails a check.
 use mathlib.Core.Path.{_≡_}
-use mathlib.Core.Bool.{Bool}
 use mathlib.Core.List.{List}
 use Prim.Native.Nat.{ℕ, _≤_}
 use lib.ListN.{length}
@@ -14,12 +13,8 @@ use Rattle.descriptor.specs.Rows.{classes, rows}
 
 -- a refusal with its entry's number
 abbrev pub stoppedOf : Stepped → ℕ → Walked
-stoppedOf (past st) n = stopped (atEntry 0 n)
+stoppedOf (past at st) n = stopped (atEntry 0 n)
 stoppedOf (stops k) n = stopped (atEntry k n)
-
--- the state at the beginning of a string
-abbrev pub entering : ℕ → ℕ → Bool → State
-entering number sum media = record { at = 0; number = number; sum = sum; media = media }
 
 -- a walk that can begin
 pub record Ready (table rowTable : List ℕ) (a : ℕ) (s : List ℕ) (st : State) : Type 0 where
@@ -27,7 +22,6 @@ pub record Ready (table rowTable : List ℕ) (a : ℕ) (s : List ℕ) (st : Stat
   pub table-is : rowTable ≡ rows
   pub mask-low : 1 ≤ a
   pub mask-top : a ≤ 2
-  pub begins : st .at ≡ 0
   pub short : length s ≤ 120
   pub number : st .number ≤ 500
   pub sum : st .sum ≤ 256

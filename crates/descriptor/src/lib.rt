@@ -11,11 +11,13 @@ ghost use Rattle.rules.specs.Beside.{entryAnswer, entryBytes};
 ghost use Rattle.descriptor.specs.Locate.{locatedOf};
 ghost use Rattle.descriptor.specs.Find.{foundOf, shapeIn, shapeOf, listedBy};
 ghost use Rattle.descriptor.specs.Cover.{coverOf};
+ghost use Rattle.descriptor.specs.Marks.{pastOr};
 ghost use Rattle.descriptor.specs.Rows.{extrasIn};
 ghost use Rattle.descriptor.specs.Wide.{codesBy};
 
 pub mod table; // document 01's table: constant rows by ID class
 mod rows; // the row of an ID
+mod state; // what a walk keeps
 mod step; // one entry: the checks 1 to 7
 mod walk; // one string
 mod reading; // one entry: what a call needs of it
@@ -25,7 +27,10 @@ mod text; // the map program's text
 use crate::reading::named_at;
 use crate::rows::row_of;
 use crate::search::look;
+use crate::search::past;
 use crate::search::seek;
+use crate::state::into_ro;
+use crate::state::start;
 use crate::step::byte_at;
 use crate::table::CLASSES;
 use crate::table::ROWS;
@@ -39,6 +44,25 @@ use rules::Answer;
 use rules::Loaded;
 use rules::Refusal;
 use rules::Walked;
+
+// Where an entry stands in a string and in a set: its start and its offset.
+pub struct Mark {
+    pub at: usize,
+    pub sum: usize,
+}
+
+// Past the entry at a mark of either string, once the load has accepted them; a mark at which no entry can stand stays.
+pub fn advance(a: usize, s: &[u8], mark: Mark) -> Mark
+    ensures { λ r. ⌜ r ≡ pastOr a (now (s .entry)) mark ⌝ }
+{
+    if !((a <= 2) & ((mark.at <= 120) & (mark.sum <= 256))) {
+        return mark;
+    }
+    if s.len() <= mark.at + 2 + a {
+        return mark;
+    }
+    past(a, s, mark)
+}
 
 // Where an entry stands: in which string, its start and length there, and its offset in a set.
 pub enum Located {
@@ -68,11 +92,11 @@ pub fn load(count: usize, rw: &[u8], ro: &[u8]) -> Loaded
     let a = mask_bytes(count);
     let classes = CLASSES;
     let table = ROWS;
-    let first = scan(&classes, &table, false, a, rw, 0, 0, false);
+    let first = scan(&classes, &table, false, a, rw, 0, start());
     let Walked::Ended(m) = first else {
         return refused(first);
     };
-    let last = scan(&classes, &table, true, a, ro, m.number, m.sum, m.media);
+    let last = scan(&classes, &table, true, a, ro, 0, into_ro(m));
     let Walked::Ended(e) = last else {
         return refused(last);
     };

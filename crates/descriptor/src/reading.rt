@@ -4,7 +4,6 @@ ghost use Prim.Native.Nat.{_≤_};
 ghost use Rattle.rules.specs.Descriptor.{entryAt};
 ghost use Rattle.descriptor.specs.Rows.{Tables};
 ghost use Rattle.descriptor.specs.Steps.{stepBy};
-ghost use Rattle.descriptor.specs.Wide.{standingAt};
 ghost use Rattle.descriptor.specs.Find.{leastBy, mostBy, namedOf};
 use crate::Named;
 use crate::listed_from;
@@ -59,7 +58,7 @@ pub fn named_at(
 ) -> Named
     requires { ⌜ Tables (now classes) (now rows) (now values) ⌝ }
     requires { ⌜ (a ≤ 2) × (start ≤ 120) ⌝ }
-    ensures { λ r. ⌜ r ≡ namedOf in_ro (entryAt a (now (s .entry)) (standingAt start offset)) ⌝ }
+    ensures { λ r. ⌜ r ≡ namedOf in_ro (entryAt a (now (s .entry)) start offset) ⌝ }
 {
     let id = byte_at(s, start);
     let class = class_of(classes, id);

@@ -1,28 +1,31 @@
 // The search for an entry by its number, and by a byte that its space covers, once the load has accepted the strings.
 ghost use mathlib.Core.Path.{_≡_};
 ghost use Prim.Native.Nat.{_≤_};
-ghost use Rattle.descriptor.specs.Seek.{markAfter, Seeking};
+ghost use Rattle.descriptor.specs.Marks.{past as pastOf, OnEntry, markAfter, Passable};
 ghost use Rattle.descriptor.specs.Cover.{Hits};
+use crate::Mark;
 
-// Where an entry stands: its start in its string, and its offset in a set.
-pub struct Mark {
-    pub at: usize,
-    pub sum: usize,
+// Past the entry at a mark.
+pub fn past(a: usize, s: &[u8], mark: Mark) -> Mark
+    requires { ⌜ OnEntry a (now s) mark ⌝ }
+    ensures { λ r. ⌜ r ≡ pastOf a (now (s .entry)) mark ⌝ }
+{
+    let at = mark.at;
+    Mark {
+        at: at + (s[at + 1] as usize),
+        sum: mark.sum + (s[at + 2 + a] as usize),
+    }
 }
 
 // Past n entries of a string, whose spaces begin at a sum.
 pub fn seek(a: usize, s: &[u8], sum: usize, n: usize) -> Mark
-    requires { ⌜ Seeking a (now s) sum n ⌝ }
+    requires { ⌜ Passable a (now s) sum n ⌝ }
     ensures { λ r. ⌜ r ≡ markAfter a (now (s .entry)) sum n ⌝ }
 {
     let mut mark = Mark { at: 0, sum };
     let mut i = 0;
     while i < n {
-        let at = mark.at;
-        mark = Mark {
-            at: at + (s[at + 1] as usize),
-            sum: mark.sum + (s[at + 2 + a] as usize),
-        };
+        mark = past(a, s, mark);
         i += 1;
     }
     mark
@@ -37,25 +40,22 @@ pub struct Hit {
 
 // Past the entries of a string up to the first whose space ends past a byte, or past all n.
 pub fn look(a: usize, s: &[u8], sum: usize, n: usize, offset: usize) -> Hit
-    requires { ⌜ Seeking a (now s) sum n × (sum ≤ offset) ⌝ }
+    requires { ⌜ Passable a (now s) sum n × (sum ≤ offset) ⌝ }
     ensures { λ r. ⌜ Hits a (now (s .entry)) sum n offset r ⌝ }
 {
-    let mut hit = Hit {
-        number: 0,
-        at: 0,
-        sum,
-    };
-    while hit.number < n {
-        let at = hit.at;
-        let end = hit.sum + (s[at + 2 + a] as usize);
-        if offset < end {
-            return hit;
+    let mut mark = Mark { at: 0, sum };
+    let mut number = 0;
+    while number < n {
+        let after = past(a, s, mark);
+        if offset < after.sum {
+            break;
         }
-        hit = Hit {
-            number: hit.number + 1,
-            at: at + (s[at + 1] as usize),
-            sum: end,
-        };
+        mark = after;
+        number += 1;
     }
-    hit
+    Hit {
+        number,
+        at: mark.at,
+        sum: mark.sum,
+    }
 }

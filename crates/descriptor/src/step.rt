@@ -5,11 +5,12 @@ ghost use lib.ListN.{length};
 ghost use Rattle.rules.specs.Descriptor.{byteAt, mediaSide, entryAt, contentChecks, decodeAt};
 ghost use Rattle.descriptor.specs.Steps.{steppedOf, stepBy, standsBy, lateBy, Walking, Standing};
 use crate::rows::row_of;
+use crate::state::next;
 use rules::State;
 
-// Past an entry with the state after it, or the number of the first check that it fails.
+// Past an entry, with the place and the state after it, or the number of the first check that it fails.
 pub enum Stepped {
-    Past(State),
+    Past(usize, State),
     Refused(usize),
 }
 
@@ -65,12 +66,11 @@ fn late_host(id: u8, media: bool, passed: bool) -> bool
     false
 }
 
-// 3 to 7, for the entry at a state's place, with the row of its ID.
-fn content(row: u32, in_ro: bool, a: usize, s: &[u8], st: State) -> Stepped
-    requires { ⌜ Standing row a (now s) st ⌝ }
-    ensures { λ r. ⌜ r ≡ steppedOf st (contentChecks in_ro st (entryAt a (now (s .entry)) st)) ⌝ }
+// 3 to 7, for the entry at a place, with the row of its ID.
+fn content(row: u32, in_ro: bool, a: usize, s: &[u8], at: usize, st: State) -> Stepped
+    requires { ⌜ Standing row a (now s) at st ⌝ }
+    ensures { λ r. ⌜ r ≡ steppedOf at st (contentChecks in_ro st (entryAt a (now (s .entry)) at (st .sum))) ⌝ }
 {
-    let at = st.at;
     if !stands(row / 0x1000000 % 16, in_ro) {
         return Stepped::Refused(3);
     }
@@ -85,31 +85,25 @@ fn content(row: u32, in_ro: bool, a: usize, s: &[u8], st: State) -> Stepped
     if late_host(s[at], media, st.media) {
         return Stepped::Refused(6);
     }
-    let sum = st.sum + memory;
-    if 256 < sum {
+    if 256 < st.sum + memory {
         return Stepped::Refused(7);
     }
-    Stepped::Past(State {
-        at: at + (s[at + 1] as usize),
-        number: st.number + 1,
-        sum,
-        media: st.media | media,
-    })
+    Stepped::Past(at + (s[at + 1] as usize), next(st, memory, media))
 }
 
-// The entry at a state's place: 1 and 2, then 3 to 7.
+// The entry at a place: 1 and 2, then 3 to 7.
 pub fn step(
     classes: &[u8; 19],
     table: &[u32; 10],
     in_ro: bool,
     a: usize,
     s: &[u8],
+    at: usize,
     st: State,
 ) -> Stepped
-    requires { ⌜ Walking (now classes) (now table) a (now s) st ⌝ }
-    ensures { λ r. ⌜ r ≡ steppedOf st (decodeAt in_ro a (now (s .entry)) st) ⌝ }
+    requires { ⌜ Walking (now classes) (now table) a (now s) at st ⌝ }
+    ensures { λ r. ⌜ r ≡ steppedOf at st (decodeAt in_ro a (now (s .entry)) at st) ⌝ }
 {
-    let at = st.at;
     if at + 1 == s.len() {
         return Stepped::Refused(1);
     }
@@ -121,5 +115,5 @@ pub fn step(
     if length < ((row % 256) as usize) + a {
         return Stepped::Refused(2);
     }
-    content(row, in_ro, a, s, st)
+    content(row, in_ro, a, s, at, st)
 }

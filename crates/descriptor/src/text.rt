@@ -12,6 +12,8 @@ ghost use Rattle.descriptor.specs.Walks.{Ready};
 ghost use Rattle.descriptor.specs.Text.{Put, Printed, entryLine, Printable, Listing};
 use crate::load;
 use crate::mask_bytes;
+use crate::state::into_ro;
+use crate::state::start;
 use crate::step::Stepped;
 use crate::step::step;
 use crate::table::CLASSES;
@@ -82,13 +84,12 @@ fn put_spaced(out: &mut [u8; 1024], at: usize, n: usize) -> usize
     put_decimal(out, digits, n)
 }
 
-// The line of the entry at a state's place.
-fn put_entry(out: &mut [u8; 1024], at: usize, a: usize, s: &[u8], st: State) -> usize
-    requires { ⌜ Printable a (now s) st ⌝ }
+// The line of the entry at a place of a string.
+fn put_entry(out: &mut [u8; 1024], at: usize, a: usize, s: &[u8], from: usize, st: State) -> usize
+    requires { ⌜ Printable a (now s) from st ⌝ }
     requires { ⌜ at + 16 ≤ 1024 ⌝ }
-    ensures { λ r. ⌜ Put 16 at (entryLine (st .number) (entryAt a (now (s .entry)) st)) (now (out .entry)) r (now (out .exit)) ⌝ }
+    ensures { λ r. ⌜ Put 16 at (entryLine (st .number) (entryAt a (now (s .entry)) from (st .sum))) (now (out .entry)) r (now (out .exit)) ⌝ }
 {
-    let from = st.at;
     let number = put_decimal(out, at, st.number);
     let id = put_spaced(out, number, s[from] as usize);
     let offset = put_spaced(out, id, st.sum);
@@ -103,23 +104,25 @@ fn put_entries(
     in_ro: bool,
     a: usize,
     s: &[u8],
-    start: State,
+    begin: State,
     out: &mut [u8; 1024],
     at: usize,
 ) -> Listed
-    requires { ⌜ Ready (now classes) (now table) a (now s) start ⌝ }
+    requires { ⌜ Ready (now classes) (now table) a (now s) begin ⌝ }
     requires { ⌜ at + 4 * length (now s) ≤ 1024 ⌝ }
-    ensures { λ r. ⌜ Listing in_ro a (now (s .entry)) start at (now (out .entry)) (r .at) (r .end) (now (out .exit)) ⌝ }
+    ensures { λ r. ⌜ Listing in_ro a (now (s .entry)) begin at (now (out .entry)) (r .at) (r .end) (now (out .exit)) ⌝ }
 {
-    let mut st = start;
+    let mut from = 0;
+    let mut st = begin;
     let mut line = at;
-    while st.at < s.len() {
-        let d = step(classes, table, in_ro, a, s, st);
-        let Stepped::Past(next) = d else {
+    while from < s.len() {
+        let d = step(classes, table, in_ro, a, s, from, st);
+        let Stepped::Past(place, after) = d else {
             return Listed { at: line, end: st };
         };
-        line = put_entry(out, line, a, s, st);
-        st = next;
+        line = put_entry(out, line, a, s, from, st);
+        from = place;
+        st = after;
     }
     Listed { at: line, end: st }
 }
@@ -164,22 +167,10 @@ fn put_map(count: usize, rw: &[u8], ro: &[u8], out: &mut [u8; 1024]) -> usize
     let classes = CLASSES;
     let table = ROWS;
     let a = mask_bytes(count);
-    let start = State {
-        at: 0,
-        number: 0,
-        sum: 0,
-        media: false,
-    };
     let head = put_text(out, 0, b"entry id offset length\n");
-    let one = put_entries(&classes, &table, false, a, rw, start, out, head);
+    let one = put_entries(&classes, &table, false, a, rw, start(), out, head);
     let m = one.end;
-    let middle = State {
-        at: 0,
-        number: m.number,
-        sum: m.sum,
-        media: m.media,
-    };
-    let two = put_entries(&classes, &table, true, a, ro, middle, out, one.at);
+    let two = put_entries(&classes, &table, true, a, ro, into_ro(m), out, one.at);
     let e = two.end;
     put_end(out, two.at, m.sum, e.sum)
 }

@@ -3,7 +3,7 @@ ghost use mathlib.Core.Path.{_≡_};
 ghost use Rattle.rules.specs.declared.Loaded.the-variants.{Refused as rejected};
 ghost use Rattle.rules.specs.declared.Refusal.the-variants.{Plain as plain};
 ghost use Rattle.rules.specs.Load.{walkOf, sized, after};
-ghost use Rattle.descriptor.specs.Walks.{stoppedOf, entering, Ready};
+ghost use Rattle.descriptor.specs.Walks.{stoppedOf, Ready};
 use crate::step::Stepped;
 use crate::step::step;
 use rules::Loaded;
@@ -16,37 +16,33 @@ fn stopped(d: Stepped, number: usize) -> Walked
     ensures { λ r. ⌜ r ≡ stoppedOf d number ⌝ }
 {
     match d {
-        Stepped::Past(_) => Walked::Refused(Refusal::AtEntry(0, number)),
+        Stepped::Past(_, _) => Walked::Refused(Refusal::AtEntry(0, number)),
         Stepped::Refused(n) => Walked::Refused(Refusal::AtEntry(n, number)),
     }
 }
 
-// The walk of a string from its beginning, with the entries, the sum and the media side of what stands before it.
+// The walk of a string from a place on, with what it keeps of all that stands before it.
 pub fn scan(
     classes: &[u8; 19],
     table: &[u32; 10],
     in_ro: bool,
     a: usize,
     s: &[u8],
-    number: usize,
-    sum: usize,
-    media: bool,
+    from: usize,
+    begin: State,
 ) -> Walked
-    requires { ⌜ Ready (now classes) (now table) a (now s) (entering number sum media) ⌝ }
-    ensures { λ r. ⌜ r ≡ walkOf in_ro a (now (s .entry)) (entering number sum media) ⌝ }
+    requires { ⌜ Ready (now classes) (now table) a (now s) begin ⌝ }
+    ensures { λ r. ⌜ r ≡ walkOf in_ro a (now (s .entry)) from begin ⌝ }
 {
-    let mut st = State {
-        at: 0,
-        number,
-        sum,
-        media,
-    };
-    while st.at < s.len() {
-        let d = step(classes, table, in_ro, a, s, st);
-        let Stepped::Past(next) = d else {
+    let mut at = from;
+    let mut st = begin;
+    while at < s.len() {
+        let d = step(classes, table, in_ro, a, s, at, st);
+        let Stepped::Past(place, after) = d else {
             return stopped(d, st.number);
         };
-        st = next;
+        at = place;
+        st = after;
     }
     Walked::Ended(st)
 }

@@ -11,7 +11,7 @@ use Rattle.rules.specs.declared.Taken.the-variants.{Part as taken, End as noMor
 use Rattle.rules.specs.Parameter.{rowOf}
 use Rattle.rules.specs.Descriptor.{maskBytes, byteAt, entryAt, overruns, lengthChecks}
 use Rattle.rules.specs.Load.{sized}
-use Rattle.rules.specs.Reader.{standing, takenOf, takeOf}
+use Rattle.rules.specs.Reader.{takenOf, takeOf}
 use Rattle.rules.proofs.Checks.{pass, stop}
 
 module _ (count : ℕ) (s : List ℕ) (at : ℕ) where
@@ -25,11 +25,11 @@ module _ (count : ℕ) (s : List ℕ) (at : ℕ) where
     take-end h = rw (fits, le-ltb at (length s) h)
 
     module _ (more : at < length s) where
-      pub take-1 : overruns (length s - at) (entryAt (maskBytes count) s (standing at)) ≡ true → takeOf count s at ≡ notTaken (plain 1)
+      pub take-1 : overruns (length s - at) (entryAt (maskBytes count) s at 0) ≡ true → takeOf count s at ≡ notTaken (plain 1)
       unfolding takeOf lengthChecks
       take-1 h = rw (fits, lt-ltb at (length s) more) (ap takenOf (sym (stop 1 _ h)))
 
-      module _ (within : overruns (length s - at) (entryAt (maskBytes count) s (standing at)) ≡ false) where
+      module _ (within : overruns (length s - at) (entryAt (maskBytes count) s at 0) ≡ false) where
         pub take-2 : ltb (byteAt s (at + 1)) (rowOf (byteAt s at) .least + maskBytes count) ≡ true → takeOf count s at ≡ notTaken (plain 2)
         unfolding takeOf lengthChecks
         take-2 h = rw (fits, lt-ltb at (length s) more) (ap takenOf (sym (pass 1 _ within (stop 2 _ h))))

@@ -27,10 +27,10 @@ unfolding refuse
 passed true n d e h = let z : _≡_ {A = ℕ} 0 1 = cc in absurd (omega arith)
 passed false n d e h = (refl, h)
 
--- an entry that passes the seven checks at a state of a string
-pub record Passed (ro : Bool) (a : ℕ) (s : List ℕ) (st : State) (e : Entry) : Type 0 where
-  pub entry : e ≡ entryAt a s st
-  pub within : e .length ≤ length s - st .at
+-- an entry that passes the seven checks at a place of a string and a state
+pub record Passed (ro : Bool) (a : ℕ) (s : List ℕ) (at : ℕ) (st : State) (e : Entry) : Type 0 where
+  pub entry : e ≡ entryAt a s at (st .sum)
+  pub within : e .length ≤ length s - at
   pub long : 3 + a ≤ e .length
   pub side : mayStand (rowOf (e .id) .side) ro ≡ true
   pub good : GoodEntry e
@@ -40,9 +40,9 @@ pub record Passed (ro : Bool) (a : ℕ) (s : List ℕ) (st : State) (e : Entry) 
 same-entry : (x y : Entry) → decoded x ≡ decoded y → y ≡ x
 same-entry x y h = cc
 
-pub decode-passed : (ro : Bool) (a : ℕ) (s : List ℕ) (st : State) (e : Entry) → decodeAt ro a s st ≡ decoded e → Passed ro a s st e
+pub decode-passed : (ro : Bool) (a : ℕ) (s : List ℕ) (at : ℕ) (st : State) (e : Entry) → decodeAt ro a s at st ≡ decoded e → Passed ro a s at st e
 unfolding decodeAt lengthChecks contentChecks
-decode-passed ro a s st e h =
+decode-passed ro a s at st e h =
     let h1 = passed _ _ _ e h in
     let h2 = passed _ _ _ e (h1 .1) in
     let h3 = passed _ _ _ e (h2 .1) in
@@ -50,15 +50,16 @@ decode-passed ro a s st e h =
     let h5 = passed _ _ _ e (h4 .1) in
     let h6 = passed _ _ _ e (h5 .1) in
     let h7 = passed _ _ _ e (h6 .1) in
-    let q : e ≡ entryAt a s st = same-entry (entryAt a s st) e (h7 .1) in
-    let fits = or-no (eqb (length s - st .at) 1) (ltb (length s - st .at) (entryAt a s st .length)) (h1 .0) .1 in
+    let x : Entry = entryAt a s at (st .sum) in
+    let q : e ≡ x = same-entry x e (h7 .1) in
+    let fits = or-no (eqb (length s - at) 1) (ltb (length s - at) (x .length)) (h1 .0) .1 in
     rw q
     (record {
       entry = refl;
       within = omega (arith, ltb-false);
-      long = omega (arith, ltb-false, row-least (entryAt a s st .id));
+      long = omega (arith, ltb-false, row-least (x .id));
       side = not-false _ (h3 .0);
-      good = record { width = row-width (entryAt a s st); room = omega (arith, ltb-false, row-needed (entryAt a s st)) };
+      good = record { width = row-width x; room = omega (arith, ltb-false, row-needed x) };
       step = omega (arith, ltb-false);
       sum = omega (arith, ltb-false);
     })

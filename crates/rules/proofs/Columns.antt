@@ -10,7 +10,7 @@ use lib.IntN.{ℤ, pos, negsuc}
 use lib.Signed.{leZ, leZ-yes}
 use lib.Dec.{T, ltb, leb, eqb, eqb→eq}
 use lib.ListN.{List·getD-eq-default}
-use Rattle.rules.specs.Words.{Entry, State}
+use Rattle.rules.specs.Words.{Entry}
 use Rattle.rules.specs.Parameter.{both, Extras, none, codes, indexCodes, indexStep, Range, Row, rows, space, rowOf}
 use Rattle.rules.specs.Descriptor.{codesOf, stepOf, entryAt}
 use Rattle.rules.specs.Place.{partsOf, widthOf, signedOf}
@@ -218,15 +218,15 @@ extras-at codes s at e p q = (p ∙ high-two s at, tt)
 extras-at indexCodes s at e p q = (p ∙ high-two s (at + 1), tt)
 extras-at indexStep s at e p q = (q, tt)
 
--- an entry that is read at a state's place
-pub extras-say : (a : ℕ) (s : List ℕ) (st : State) {e : Entry} → e ≡ entryAt a s st → ExtrasRead a s e
-extras-say a s st {e} q =
+-- an entry that is read at a place
+pub extras-say : (a : ℕ) (s : List ℕ) (from offset : ℕ) {e : Entry} → e ≡ entryAt a s from offset → ExtrasRead a s e
+extras-say a s from offset {e} q =
     rw q
     (⊎-elim inl (λ h. inr (h .0))
     (line-of (x .id) (λ c. ExtrasAt (c .extras) s at x) (extras-at (rowOf (x .id) .extras) s at x refl refl)))
   where
     x : Entry
-    x = entryAt a s st
+    x = entryAt a s from offset
 
     at : ℕ
     at = x .start + 4 + a

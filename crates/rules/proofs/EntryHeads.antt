@@ -23,23 +23,23 @@ use Rattle.rules.proofs.Fills.{Stands, Filled, filled-nth, stands-start
 
 -- an entry says what the bytes at its start say, and its ID, Length, mask and MemoryLength are there
 pub record Head (a : ℕ) (s : List ℕ) (e : Entry) : Type 0 where
-  pub says : e ≡ entryAt a s (record { at = e .start; number = 0; sum = e .offset; media = false })
+  pub says : e ≡ entryAt a s (e .start) (e .offset)
   pub room : e .start + 2 + a < length s
 
 module _ (ro : Bool) (a : ℕ) (s : List ℕ) where
   stands-head : {from : ℕ} {e : Entry} → Stands ro a s from e → Head a s e
   stands-head {from} {e} g =
-      let p = decode-passed ro a s (g .st) e (g .passes) in
+      let p = decode-passed ro a s from (g .st) e (g .passes) in
       let b = stands-start ro a s g in
       record { says = rw (p .entry) refl; room = omega arith }
 
-  filled-head : (l : List Entry) (n : ℕ) → Filled ro a s 0 l → n < length l → Head a s (getD l n nothing)
+  pub filled-head : (l : List Entry) (n : ℕ) → Filled ro a s 0 l → n < length l → Head a s (getD l n nothing)
   filled-head l n g h = stands-head (filled-nth ro a s l n g h)
 
   -- an entry takes more than one byte
   filled-few : (from : ℕ) (l : List Entry) → Filled ro a s from l → from + length l ≤ length s
   filled-few from [] g = omega arith
-  filled-few from (e ∷ l) g = omega (arith, filled-few (from + e .length) l (g .1), decode-passed ro a s (g .0 .st) e (g .0 .passes) .long)
+  filled-few from (e ∷ l) g = omega (arith, filled-few (from + e .length) l (g .1), decode-passed ro a s from (g .0 .st) e (g .0 .passes) .long)
 
 -- the Lengths and the MemoryLengths before the next entry
 pub lengths-next : (l : List Entry) (n : ℕ) → n < length l → lengths (take (suc n) l) ≡ lengths (take n l) + getD l n nothing .length

@@ -43,7 +43,7 @@ filled-part :
 filled-part ro count s l n g h =
     let w = filled-nth ro (maskBytes count) s l n g h in
     let e : Entry = getD l n nothing in
-    let p = decode-passed ro (maskBytes count) s (w .st) e (w .passes) in
+    let p = decode-passed ro (maskBytes count) s _ (w .st) e (w .passes) in
     let b = stands-start ro (maskBytes count) s w in
     record {
       size = simp (length-take, length-drop) (omega arith);

@@ -107,34 +107,34 @@ parts-row : (id : ℕ) → ltb 0 (rowOf id .parts) ≡ inTable id
 unfolding rowOf
 parts-row = by-row (λ id. ltb 0 (rowOf id .parts)) inTable tt parts-past
 
-module _ (a : ℕ) (s : List ℕ) (st : State) where
+module _ (a : ℕ) (s : List ℕ) (at : ℕ) (st : State) where
   abbrev id : ℕ
-  id = byteAt s (st .at)
+  id = byteAt s at
 
-  pub media-says : T (entryAt a s st .media) ↔ MediaSide a s (st .at)
+  pub media-says : T (entryAt a s at (st .sum) .media) ↔ MediaSide a s at
   media-says =
-      and-says (ltb 0 (rowOf id .parts)) (eqb (byteAt s (st .at + 3 + a) % 2) 1) (rw (parts-row id) (in-table-says id)) (eq-says _ 1)
+      and-says (ltb 0 (rowOf id .parts)) (eqb (byteAt s (at + 3 + a) % 2) 1) (rw (parts-row id) (in-table-says id)) (eq-says _ 1)
 
   late-says :
-      T (lateHost (entryAt a s st) (st .media)) ↔ ((0x02 ≤ id) × (id ≤ 0x08) × (¬ (MediaSide a s (st .at))) × (st .media ≡ true))
+      T (lateHost (entryAt a s at (st .sum)) (st .media)) ↔ ((0x02 ≤ id) × (id ≤ 0x08) × (¬ (MediaSide a s at)) × (st .media ≡ true))
   late-says =
-      let m : Bool = entryAt a s st .media in
+      let m : Bool = entryAt a s at (st .sum) .media in
       and-says₄ (leb 2 id) (leb id 8) (not m) (st .media) (le-says 2 id) (le-says id 8) (not-says m media-says) (true-says (st .media))
 
-  entry-fails : (ro : Bool) → Fails (decodeAt ro a s st) (entryRules ro a s st)
+  entry-fails : (ro : Bool) → Fails (decodeAt ro a s at st) (entryRules ro a s at st)
   unfolding decodeAt lengthChecks contentChecks
   entry-fails ro =
-      let e : Entry = entryAt a s st in
-      let left : ℕ = length s - st .at in
-      let q : st .at + 5 + a ≡ st .at + 4 + a + 1 = omega arith in
+      let e : Entry = entryAt a s at (st .sum) in
+      let left : ℕ = length s - at in
+      let q : at + 5 + a ≡ at + 4 + a + 1 = omega arith in
       before _ 1 (or-says (eqb left 1) (ltb left (e .length)) (eq-says left 1) (lt-says left (e .length)))
       (before _ 2 (least-says (e .id) a (e .length))
       (before _ 3 (side-says ro (e .id))
       (before _ 4 (needed-says (e .id) (e .memory))
-      (before _ 5 (rw q (step-says (e .id) s (st .at + 4 + a)))
+      (before _ 5 (rw q (step-says (e .id) s (at + 4 + a)))
       (before _ 6 late-says
       (before _ 7 (lt-says 256 (st .sum + e .memory))
       (passed-all e)))))))
 
-pub entry-says : (ro : Bool) (a : ℕ) (s : List ℕ) (st : State) (n : ℕ) → (decodeAt ro a s st ≡ failed n) ↔ First (entryRules ro a s st) n
-entry-says ro a s st = entry-fails a s st ro .is
+pub entry-says : (ro : Bool) (a : ℕ) (s : List ℕ) (at : ℕ) (st : State) (n : ℕ) → (decodeAt ro a s at st ≡ failed n) ↔ First (entryRules ro a s at st) n
+entry-says ro a s at st = entry-fails a s at st ro .is

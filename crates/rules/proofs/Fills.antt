@@ -22,9 +22,8 @@ use Rattle.rules.proofs.Walks.{Map-accepted, load-accepted}
 -- an entry that passes the checks at a place of a string
 pub record Stands (ro : Bool) (a : ℕ) (s : List ℕ) (from : ℕ) (e : Entry) : Type 0 where
   pub st : State
-  pub here : st .at ≡ from
-  pub left : st .at < length s
-  pub passes : decodeAt ro a s st ≡ decoded e
+  pub left : from < length s
+  pub passes : decodeAt ro a s from st ≡ decoded e
 
 -- entries that stand one directly after the other, from a place of a string to its end
 abbrev pub Filled : Bool → ℕ → List ℕ → ℕ → List Entry → Type 0
@@ -35,36 +34,46 @@ module _ (ro : Bool) (a : ℕ) (s : List ℕ) where
   module _ (end : State) where
     -- one turn of the two walks
     filled-turn :
-        (f : ℕ) (st : State) (k : State → Walked) (l : State → List Entry)
-        → ((t : State) → t .at ≤ length s → length s ≤ t .at + f → k t ≡ ended end → Filled ro a s (t .at) (l t))
-        → st .at ≤ length s
-        → length s ≤ st .at + suc f
+        (f at : ℕ) (st : State) (k : Entry → Walked) (l : Entry → List Entry)
+        → ((e : Entry) → at + e .length ≤ length s → length s ≤ at + e .length + f → k e ≡ ended end → Filled ro a s (at + e .length) (l e))
+        → at ≤ length s
+        → length s ≤ at + suc f
         → (b : Bool) (d : Decoded)
-        → ltb (st .at) (length s) ≡ b
-        → decodeAt ro a s st ≡ d
+        → ltb at (length s) ≡ b
+        → decodeAt ro a s at st ≡ d
         → cond b (onward d st k) (ended st) ≡ ended end
-        → Filled ro a s (st .at) (cond b (gather d st l) [])
-    filled-turn f st k l ih u g false d t q h = omega (arith, ltb-false)
-    filled-turn f st k l ih u g true (failed n) t q h = let z : _≡_ {A = ℕ} 0 1 = cc in absurd (omega arith)
-    filled-turn f st k l ih u g true (decoded e) t q h =
-        let p = decode-passed ro a s st e q in
-        let lt = ltb-true (st .at) (length s) t in
-        (record { st = st; here = refl; left = lt; passes = q }, ih (next st e) (omega arith) (omega arith) h)
+        → Filled ro a s at (cond b (gather d st l) [])
+    filled-turn f at st k l ih u g false d t q h = omega (arith, ltb-false)
+    filled-turn f at st k l ih u g true (failed n) t q h = let z : _≡_ {A = ℕ} 0 1 = cc in absurd (omega arith)
+    filled-turn f at st k l ih u g true (decoded e) t q h =
+        let p = decode-passed ro a s at st e q in
+        let lt = ltb-true at (length s) t in
+        (record { st = st; left = lt; passes = q }, ih e (omega arith) (omega arith) h)
 
     filled-by :
-        (f : ℕ) (st : State)
-        → st .at ≤ length s
-        → length s ≤ st .at + f
-        → foldBy onward ended ro a f s st ≡ ended end
-        → Filled ro a s (st .at) (foldBy gather (λ _. []) ro a f s st)
+        (f at : ℕ) (st : State)
+        → at ≤ length s
+        → length s ≤ at + f
+        → foldBy onward ended ro a f s at st ≡ ended end
+        → Filled ro a s at (foldBy gather (λ _. []) ro a f s at st)
     unfolding foldBy
-    filled-by zero st u g h = omega arith
-    filled-by (suc f) st u g h =
-        filled-turn f st (foldBy onward ended ro a f s) (foldBy gather (λ _. []) ro a f s) (filled-by f) u g (ltb (st .at) (length s)) (decodeAt ro a s st) refl refl h
+    filled-by zero at st u g h = omega arith
+    filled-by (suc f) at st u g h =
+        filled-turn f at st
+        (λ e. foldBy onward ended ro a f s (at + e .length) (next st e))
+        (λ e. foldBy gather (λ _. []) ro a f s (at + e .length) (next st e))
+        (λ e. filled-by f (at + e .length) (next st e))
+        u
+        g
+        (ltb at (length s))
+        (decodeAt ro a s at st)
+        refl
+        refl
+        h
 
-    walk-filled : (st : State) → st .at ≤ length s → walkOf ro a s st ≡ ended end → Filled ro a s (st .at) (entriesFrom ro a s st)
+    walk-filled : (at : ℕ) (st : State) → at ≤ length s → walkOf ro a s at st ≡ ended end → Filled ro a s at (entriesFrom ro a s at st)
     unfolding walkOf foldOf entriesFrom
-    walk-filled st u h = filled-by (length s) st u (omega arith) h
+    walk-filled at st u h = filled-by (length s) at st u (omega arith) h
 
   -- an entry stands after all those before it
   filled-at :
@@ -86,25 +95,22 @@ module _ (ro : Bool) (a : ℕ) (s : List ℕ) where
   filled-ends from (e ∷ l) g = omega (arith, filled-ends (from + e .length) l (g .1))
 
   pub stands-start : {from : ℕ} {e : Entry} → Stands ro a s from e → e .start ≡ from
-  stands-start {from} {e} g = ap (λ (x : Entry). x .start) (decode-passed ro a s (g .st) e (g .passes) .entry) ∙ g .here
+  stands-start {from} {e} g = ap (λ (x : Entry). x .start) (decode-passed ro a s from (g .st) e (g .passes) .entry)
 
   -- an entry says what the bytes at its start say
-  stands-says :
-      {from : ℕ} {e : Entry} (n : ℕ)
-      → Stands ro a s from e
-      → e ≡ entryAt a s (record { at = e .start; number = n; sum = e .offset; media = false })
-  stands-says {from} {e} n g = rw (decode-passed ro a s (g .st) e (g .passes) .entry) refl
+  stands-says : {from : ℕ} {e : Entry} → Stands ro a s from e → e ≡ entryAt a s (e .start) (e .offset)
+  stands-says {from} {e} g = rw (decode-passed ro a s from (g .st) e (g .passes) .entry) refl
 
   pub filled-extras : (l : List Entry) → Filled ro a s 0 l → (n : ℕ) → n < length l → ExtrasRead a s (getD l n nothing)
   filled-extras l g n h =
-      let w = filled-nth l n g h in extras-say a s (w .st) (decode-passed ro a s (w .st) (getD l n nothing) (w .passes) .entry)
+      let x = getD l n nothing in extras-say a s (x .start) (x .offset) (stands-says (filled-nth l n g h))
 
   filled-fills : (l : List Entry) → Filled ro a s 0 l → Fills a s l
   filled-fills l g =
       record {
         ends = omega (arith, filled-ends 0 l g);
         starts = λ n h. stands-start (filled-nth l n g h);
-        says = λ n h. stands-says n (filled-nth l n g h);
+        says = λ n h. stands-says (filled-nth l n g h);
       }
 
 module _ (count : ℕ) (first last : List ℕ) (ok : Accepted count first last) where
@@ -113,12 +119,12 @@ module _ (count : ℕ) (first last : List ℕ) (ok : Accepted count first last) 
 
   pub rw-filled : Filled false (maskBytes count) first 0 (rwEntries count first)
   unfolding rwEntries
-  rw-filled = walk-filled false (maskBytes count) first (a .middle) start (omega arith) (a .rw-ends)
+  rw-filled = walk-filled false (maskBytes count) first (a .middle) 0 start (omega arith) (a .rw-ends)
 
   pub ro-filled : Filled true (maskBytes count) last 0 (roEntries count first last)
   unfolding roEntries
   ro-filled =
-      rw (a .rw-ends) (walk-filled true (maskBytes count) last (a .end) (intoRO (a .middle)) (omega arith) (a .ro-ends))
+      rw (a .rw-ends) (walk-filled true (maskBytes count) last (a .end) 0 (intoRO (a .middle)) (omega arith) (a .ro-ends))
 
   pub rw-fills : Fills (maskBytes count) first (rwEntries count first)
   rw-fills = filled-fills false (maskBytes count) first (rwEntries count first) rw-filled

@@ -22,11 +22,11 @@ lines-append n (e ∷ l) r =
 -- the RO string's lines go on from the RW string's last number
 pub lines-both :
     (count : ℕ) (rw ro : List ℕ) (m : State)
-    → walkOf false (maskBytes count) rw start ≡ ended m
+    → walkOf false (maskBytes count) rw 0 start ≡ ended m
     → entryLines 0 (entriesOf count rw ro)
-    ≡ entryLines 0 (entriesFrom false (maskBytes count) rw start) ++ entryLines (m .number) (entriesFrom true (maskBytes count) ro (intoRO m))
+    ≡ entryLines 0 (entriesFrom false (maskBytes count) rw 0 start) ++ entryLines (m .number) (entriesFrom true (maskBytes count) ro 0 (intoRO m))
 unfolding entriesOf rwEntries roEntries
 lines-both count first last m h =
-    let l = walk-listed false (maskBytes count) first m start (omega arith) h in
-    let q : 0 + length (entriesFrom false (maskBytes count) first start) ≡ m .number = sym (l .counts) in
-    rw (h, ← q) (lines-append 0 (entriesFrom false (maskBytes count) first start) _)
+    let l = walk-listed false (maskBytes count) first m 0 start (omega arith) h in
+    let q : 0 + length (entriesFrom false (maskBytes count) first 0 start) ≡ m .number = sym (l .counts) in
+    rw (h, ← q) (lines-append 0 (entriesFrom false (maskBytes count) first 0 start) _)

@@ -2,11 +2,11 @@
 use mathlib.Core.Bool.{Bool, true, false, cond}
 use mathlib.Core.Path.{_≡_}
 use mathlib.Core.List.{List}
-use Prim.Native.Nat.{ℕ, zero, suc, _-_, _≤_}
+use Prim.Native.Nat.{ℕ, zero, suc, _+_, _-_, _≤_}
 use native.Mathlib.Omega.{arith}
 use lib.Dec.{ltb}
 use lib.ListN.{length}
-use Rattle.rules.specs.Words.{Refusal, numberOf, Decoded, decoded, failed, State, Walked, ended, stopped, Loaded, accepted, rejected}
+use Rattle.rules.specs.Words.{Refusal, numberOf, Entry, Decoded, decoded, failed, State, Walked, ended, stopped, Loaded, accepted, rejected}
 use Rattle.rules.specs.Descriptor.{maskBytes, refuse, lengthChecks, contentChecks, decodeAt}
 use Rattle.rules.specs.Load.{start, next, intoRO, foldBy, foldOf, onward, walkOf, sized, after, stringsOf, loadOf}
 use Rattle.rules.proofs.Tests.{by-test}
@@ -20,9 +20,9 @@ unfolding refuse
 refuse-number true n d h k = h
 refuse-number false n d h k = k
 
-decode-number : (ro : Bool) (a : ℕ) (s : List ℕ) (st : State) → Entry-number (decodeAt ro a s st)
+decode-number : (ro : Bool) (a : ℕ) (s : List ℕ) (at : ℕ) (st : State) → Entry-number (decodeAt ro a s at st)
 unfolding decodeAt lengthChecks contentChecks
-decode-number ro a s st =
+decode-number ro a s at st =
     refuse-number _ 1 _ (omega arith)
     (refuse-number _ 2 _ (omega arith)
     (refuse-number _ 3 _ (omega arith)
@@ -35,22 +35,22 @@ abbrev Walk-number : Walked → Type 0
 Walk-number (ended st) = Unit
 Walk-number (stopped r) = numberOf r ≤ 9
 
-by-fuel : (ro : Bool) (a f : ℕ) (s : List ℕ) (st : State) → Walk-number (foldBy onward ended ro a f s st)
+by-fuel : (ro : Bool) (a f : ℕ) (s : List ℕ) (at : ℕ) (st : State) → Walk-number (foldBy onward ended ro a f s at st)
 unfolding foldBy
-by-fuel ro a zero s st = tt
-by-fuel ro a (suc f) s st = go (ltb (st .at) (length s)) (decodeAt ro a s st) (decode-number ro a s st) (by-fuel ro a f s)
+by-fuel ro a zero s at st = tt
+by-fuel ro a (suc f) s at st = go (ltb at (length s)) (decodeAt ro a s at st) (decode-number ro a s at st) (λ e. by-fuel ro a f s (at + e .length) (next st e))
   where
-    go : (b : Bool) (d : Decoded)
-        → Entry-number d
-        → ((t : State) → Walk-number (foldBy onward ended ro a f s t))
-        → Walk-number (cond b (onward d st (foldBy onward ended ro a f s)) (ended st))
+    rest : Entry → Walked
+    rest e = foldBy onward ended ro a f s (at + e .length) (next st e)
+
+    go : (b : Bool) (d : Decoded) → Entry-number d → ((e : Entry) → Walk-number (rest e)) → Walk-number (cond b (onward d st rest) (ended st))
     go false d h k = tt
-    go true (decoded e) h k = k (next st e)
+    go true (decoded e) h k = k e
     go true (failed n) h k = omega arith
 
-walk-number : (ro : Bool) (a : ℕ) (s : List ℕ) (st : State) → Walk-number (walkOf ro a s st)
+walk-number : (ro : Bool) (a : ℕ) (s : List ℕ) (at : ℕ) (st : State) → Walk-number (walkOf ro a s at st)
 unfolding walkOf foldOf
-walk-number ro a s st = by-fuel ro a (length s) s st
+walk-number ro a s at st = by-fuel ro a (length s) s at st
 
 abbrev Load-number : Loaded → Type 0
 Load-number (accepted n k c t) = Unit
@@ -63,9 +63,9 @@ after-number (stopped r) k h g = h
 strings-number : (count : ℕ) (rw ro : List ℕ) → Load-number (stringsOf count rw ro)
 unfolding stringsOf
 strings-number count first last =
-    after-number (walkOf false (maskBytes count) first start) _
-    (walk-number false (maskBytes count) first start)
-    (λ m. after-number (walkOf true (maskBytes count) last (intoRO m)) _ (walk-number true (maskBytes count) last (intoRO m)) (λ e. tt))
+    after-number (walkOf false (maskBytes count) first 0 start) _
+    (walk-number false (maskBytes count) first 0 start)
+    (λ m. after-number (walkOf true (maskBytes count) last 0 (intoRO m)) _ (walk-number true (maskBytes count) last 0 (intoRO m)) (λ e. tt))
 
 numbered : (count : ℕ) (rw ro : List ℕ) → Load-number (loadOf count rw ro)
 unfolding loadOf

@@ -16,18 +16,18 @@ module _ (count : ℕ) (first last : List ℕ) where
   unfolding loadOf
   load-strings h = rw h
 
-  pub strings-rw-refused : (r : Refusal) → walkOf false (maskBytes count) first start ≡ stopped r → stringsOf count first last ≡ rejected r
+  pub strings-rw-refused : (r : Refusal) → walkOf false (maskBytes count) first 0 start ≡ stopped r → stringsOf count first last ≡ rejected r
   unfolding stringsOf
   strings-rw-refused r h = rw h
 
-  module _ (m : State) (h : walkOf false (maskBytes count) first start ≡ ended m) where
-    pub strings-ro-refused : (r : Refusal) → walkOf true (maskBytes count) last (intoRO m) ≡ stopped r → stringsOf count first last ≡ rejected r
+  module _ (m : State) (h : walkOf false (maskBytes count) first 0 start ≡ ended m) where
+    pub strings-ro-refused : (r : Refusal) → walkOf true (maskBytes count) last 0 (intoRO m) ≡ stopped r → stringsOf count first last ≡ rejected r
     unfolding stringsOf
     strings-ro-refused r k = rw (h, k)
 
     pub strings-accepted :
         (e : State)
-        → walkOf true (maskBytes count) last (intoRO m) ≡ ended e
+        → walkOf true (maskBytes count) last 0 (intoRO m) ≡ ended e
         → stringsOf count first last ≡ accepted (m .number) (e .number - m .number) (m .sum) (e .sum)
     unfolding stringsOf
     strings-accepted e k = rw (h, k)

@@ -21,14 +21,14 @@ or-first x y h = (
 )
 
 module _ (ro : Bool) (a : ℕ) (s : List ℕ) where
-  decode-media : (st : State) (e : Entry) → decodeAt ro a s st ≡ decoded e → T (e .media) ↔ MediaSide a s (st .at)
-  decode-media st e d = rw (decode-passed ro a s st e d .entry) (media-says a s st)
+  decode-media : (at : ℕ) (st : State) (e : Entry) → decodeAt ro a s at st ≡ decoded e → T (e .media) ↔ MediaSide a s at
+  decode-media at st e d = rw (decode-passed ro a s at st e d .entry) (media-says a s at st)
 
   -- it said so at the beginning of the way, or one is passed on the way
-  way-says : {end from : State} (w : Way ro a s end from) → T (end .media) ↔ (T (from .media) ⊎ PastMedia w)
+  way-says : {to : ℕ} {end : State} {from : ℕ} {begin : State} (w : Way ro a s to end from begin) → T (end .media) ↔ (T (begin .media) ⊎ PastMedia w)
   way-says here = (inl, ⊎-elim (λ h. h) (λ h. absurd h))
-  way-says (past {st} e l d w) = Iff·trans (way-says w) (or-first (st .media) (e .media) (decode-media st e d))
+  way-says (past {at} {st} e l d w) = Iff·trans (way-says w) (or-first (st .media) (e .media) (decode-media at st e d))
 
-pub way-media : (a : ℕ) (s : List ℕ) (st : State) (w : Way false a s st start) → (st .media ≡ true) ↔ PastMedia w
-way-media a s st w =
+pub way-media : (a : ℕ) (s : List ℕ) (at : ℕ) (st : State) (w : Way false a s at st 0 start) → (st .media ≡ true) ↔ PastMedia w
+way-media a s at st w =
     Iff·trans (Iff·symm (true-says (st .media))) (Iff·trans (way-says false a s w) (⊎-elim (λ h. absurd h) (λ h. h), inr))

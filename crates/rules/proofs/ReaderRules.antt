@@ -12,7 +12,7 @@ use Rattle.rules.specs.Parameter.{rowOf}
 use Rattle.rules.specs.Descriptor.{maskBytes, entryAt, overruns, refuse, lengthChecks}
 use Rattle.rules.specs.Load.{sized}
 use Rattle.rules.specs.Refuse.{Verdict, passes, refuses, refuseIf, firstOf}
-use Rattle.rules.specs.Reader.{standing, takenOf, takeOf, movedTo}
+use Rattle.rules.specs.Reader.{takenOf, takeOf, movedTo}
 use Rattle.rules.specs.Conditions.{First, ReaderSized, readerRules}
 use Rattle.rules.proofs.Facts.{lt-says, eq-says, or-says, and-says}
 use Rattle.rules.proofs.Columns.{least-says}
@@ -31,7 +31,7 @@ given-accepts false e x h = let o : _≡_ {A = ℕ} 0 1 = cc in omega arith
 
 module _ (count : ℕ) (s : List ℕ) (position : ℕ) where
   abbrev e : Entry
-  e = entryAt (maskBytes count) s (standing position)
+  e = entryAt (maskBytes count) s position 0
 
   abbrev left : ℕ
   left = length s - position

@@ -35,9 +35,9 @@ module _ (count : ℕ) (s : List ℕ) (fits : sized count s [] ≡ true) where
   take-stands ro {from} {e} w =
       let h1 = passed _ _ _ e (w .passes) in
       let h2 = passed _ _ _ e (h1 .1) in
-      rw (← w .here, fits, lt-ltb (w .st .at) (length s) (w .left))
+      rw (fits, lt-ltb from (length s) (w .left))
       (ap takenOf (sym (pass 1 _ (h1 .0) (pass 2 _ (h2 .0) refl)))
-      ∙ ap (λ (x : Entry). taken (x .start) (x .length)) (sym (decode-passed ro (maskBytes count) s (w .st) e (w .passes) .entry)))
+      ∙ ap (λ (x : Entry). taken (x .start) (x .length)) (sym (decode-passed ro (maskBytes count) s from (w .st) e (w .passes) .entry)))
 
   take-moves :
       (ro : Bool) {from : ℕ} {e : Entry}

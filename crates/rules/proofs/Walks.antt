@@ -30,48 +30,63 @@ here st end g h =
 
 module _ (ro : Bool) (a : ℕ) (s : List ℕ) (end : State) where
   turned :
-      (st : State) (k : State → Walked) (l : State → List Entry)
-      → ((t : State) → t .sum ≤ 256 → k t ≡ ended end → Listed t end (l t))
+      (at : ℕ) (st : State) (k : Entry → Walked) (l : Entry → List Entry)
+      → ((e : Entry) → next st e .sum ≤ 256 → k e ≡ ended end → Listed (next st e) end (l e))
       → st .sum ≤ 256
       → (b : Bool) (d : Decoded)
-      → decodeAt ro a s st ≡ d
+      → decodeAt ro a s at st ≡ d
       → cond b (onward d st k) (ended st) ≡ ended end
       → Listed st end (cond b (gather d st l) [])
   unfolding total
-  turned st k l ih g false d q h = here st end g h
-  turned st k l ih g true (failed n) q h = let z : _≡_ {A = ℕ} 0 1 = cc in absurd (omega arith)
-  turned st k l ih g true (decoded e) q h =
-      let p = decode-passed ro a s st e q in
-      let r = ih (next st e) (p .sum) h in
+  turned at st k l ih g false d q h = here st end g h
+  turned at st k l ih g true (failed n) q h = let z : _≡_ {A = ℕ} 0 1 = cc in absurd (omega arith)
+  turned at st k l ih g true (decoded e) q h =
+      let p = decode-passed ro a s at st e q in
+      let r = ih e (p .sum) h in
       let off : e .offset ≡ st .sum = ap (λ (x : Entry). x .offset) (p .entry) in
       record { counts = omega arith; sums = omega arith; most = r .most; good = (p .good, off, r .good) }
 
-  by-fuel : (f : ℕ) (st : State) → st .sum ≤ 256 → foldBy onward ended ro a f s st ≡ ended end → Listed st end (foldBy gather (λ _. []) ro a f s st)
+  by-fuel : (f at : ℕ) (st : State) → st .sum ≤ 256 → foldBy onward ended ro a f s at st ≡ ended end → Listed st end (foldBy gather (λ _. []) ro a f s at st)
   unfolding foldBy
-  by-fuel zero st g h = here st end g h
-  by-fuel (suc f) st g h =
-      turned st (foldBy onward ended ro a f s) (foldBy gather (λ _. []) ro a f s) (by-fuel f) g (ltb (st .at) (length s)) (decodeAt ro a s st) refl h
+  by-fuel zero at st g h = here st end g h
+  by-fuel (suc f) at st g h =
+      turned at st
+      (λ e. foldBy onward ended ro a f s (at + e .length) (next st e))
+      (λ e. foldBy gather (λ _. []) ro a f s (at + e .length) (next st e))
+      (λ e. by-fuel f (at + e .length) (next st e))
+      g
+      (ltb at (length s))
+      (decodeAt ro a s at st)
+      refl
+      h
 
-  pub walk-listed : (st : State) → st .sum ≤ 256 → walkOf ro a s st ≡ ended end → Listed st end (entriesFrom ro a s st)
+  pub walk-listed : (at : ℕ) (st : State) → st .sum ≤ 256 → walkOf ro a s at st ≡ ended end → Listed st end (entriesFrom ro a s at st)
   unfolding walkOf foldOf entriesFrom
-  walk-listed st g h = by-fuel (length s) st g h
+  walk-listed at st g h = by-fuel (length s) at st g h
 
 -- a walk counts at most one entry for each byte
-few-by : (ro : Bool) (a f : ℕ) (s : List ℕ) (st : State) → length (foldBy gather (λ _. []) ro a f s st) ≤ f
+few-by : (ro : Bool) (a f : ℕ) (s : List ℕ) (at : ℕ) (st : State) → length (foldBy gather (λ _. []) ro a f s at st) ≤ f
 unfolding foldBy
-few-by ro a zero s st = omega arith
-few-by ro a (suc f) s st = go (ltb (st .at) (length s)) (decodeAt ro a s st) (few-by ro a f s)
+few-by ro a zero s at st = omega arith
+few-by ro a (suc f) s at st = go (ltb at (length s)) (decodeAt ro a s at st) (λ e. few-by ro a f s (at + e .length) (next st e))
   where
-    go : (b : Bool) (d : Decoded) → ((t : State) → length (foldBy gather (λ _. []) ro a f s t) ≤ f) → length (cond b (gather d st (foldBy gather (λ _. []) ro a f s)) []) ≤ suc f
+    rest : Entry → List Entry
+    rest e = foldBy gather (λ _. []) ro a f s (at + e .length) (next st e)
+
+    go : (b : Bool) (d : Decoded) → ((e : Entry) → length (rest e) ≤ f) → length (cond b (gather d st rest) []) ≤ suc f
     go false d r = omega arith
     go true (failed n) r = omega arith
-    go true (decoded e) r = omega (arith, r (next st e))
+    go true (decoded e) r = omega (arith, r e)
 
-pub walk-counts : (ro : Bool) (a : ℕ) (s : List ℕ) (st end : State) → st .sum ≤ 256 → walkOf ro a s st ≡ ended end → (st .number ≤ end .number) × (end .number ≤ st .number + length s) × (end .sum ≤ 256)
+pub walk-counts :
+    (ro : Bool) (a : ℕ) (s : List ℕ) (at : ℕ) (st end : State)
+    → st .sum ≤ 256
+    → walkOf ro a s at st ≡ ended end
+    → (st .number ≤ end .number) × (end .number ≤ st .number + length s) × (end .sum ≤ 256)
 unfolding entriesFrom foldOf
-walk-counts ro a s st end g h =
-    let l = walk-listed ro a s end st g h in
-    let n = few-by ro a (length s) s st in
+walk-counts ro a s at st end g h =
+    let l = walk-listed ro a s end at st g h in
+    let n = few-by ro a (length s) s at st in
     (omega arith, omega arith, l .most)
 
 -- two lists in a row
@@ -98,8 +113,8 @@ ends-all n (e ∷ l) (suc k) g h = omega (arith, ends-all (n + e .memory) l k (g
 pub record Map-accepted (count : ℕ) (rw ro : List ℕ) (n k c t : ℕ) : Type 0 where
   pub middle : State
   pub end : State
-  pub rw-ends : walkOf false (maskBytes count) rw start ≡ ended middle
-  pub ro-ends : walkOf true (maskBytes count) ro (intoRO middle) ≡ ended end
+  pub rw-ends : walkOf false (maskBytes count) rw 0 start ≡ ended middle
+  pub ro-ends : walkOf true (maskBytes count) ro 0 (intoRO middle) ≡ ended end
   pub rwCount : n ≡ length (rwEntries count rw)
   pub roCount : k ≡ length (roEntries count rw ro)
   pub staged : c ≡ total (rwEntries count rw)
@@ -110,9 +125,9 @@ pub record Map-accepted (count : ℕ) (rw ro : List ℕ) (n k c t : ℕ) : Type 
   pub sized : T (sized count rw ro)
   pub strings : stringsOf count rw ro ≡ accepted n k c t
 
-module _ (count : ℕ) (first last : List ℕ) (m e : State) (p : walkOf false (maskBytes count) first start ≡ ended m)
-    (q : walkOf true (maskBytes count) last (intoRO m) ≡ ended e) where
-  ro-entries : roEntries count first last ≡ entriesFrom true (maskBytes count) last (intoRO m)
+module _ (count : ℕ) (first last : List ℕ) (m e : State) (p : walkOf false (maskBytes count) first 0 start ≡ ended m)
+    (q : walkOf true (maskBytes count) last 0 (intoRO m) ≡ ended e) where
+  ro-entries : roEntries count first last ≡ entriesFrom true (maskBytes count) last 0 (intoRO m)
   unfolding roEntries
   ro-entries = rw p
 
@@ -120,8 +135,8 @@ module _ (count : ℕ) (first last : List ℕ) (m e : State) (p : walkOf false (
       → Map-accepted count first last (m .number) (e .number - m .number) (m .sum) (e .sum)
   unfolding rwEntries entriesOf
   both-ended z w =
-      let l = walk-listed false (maskBytes count) first m start (omega arith) p in
-      let r = rw (← ro-entries) at (walk-listed true (maskBytes count) last e (intoRO m) (l .most) q) in
+      let l = walk-listed false (maskBytes count) first m 0 start (omega arith) p in
+      let r = rw (← ro-entries) at (walk-listed true (maskBytes count) last e 0 (intoRO m) (l .most) q) in
       let t = total-append (rwEntries count first) (roEntries count first last) in
       let g : m .sum ≡ 0 + total (rwEntries count first) = omega arith in
       record {
@@ -143,18 +158,18 @@ module _ (count : ℕ) (first last : List ℕ) (m e : State) (p : walkOf false (
 strings-def :
     (count : ℕ) (first last : List ℕ)
     → stringsOf count first last
-    ≡ after (walkOf false (maskBytes count) first start) (λ m. after (walkOf true (maskBytes count) last (intoRO m)) (λ e. accepted (m .number) (e .number - m .number) (m .sum) (e .sum)))
+    ≡ after (walkOf false (maskBytes count) first 0 start) (λ m. after (walkOf true (maskBytes count) last 0 (intoRO m)) (λ e. accepted (m .number) (e .number - m .number) (m .sum) (e .sum)))
 unfolding stringsOf
 strings-def count first last = refl
 
 module _ (count : ℕ) (first last : List ℕ) (n k c t : ℕ) where
   second :
       (m : State)
-      → walkOf false (maskBytes count) first start ≡ ended m
+      → walkOf false (maskBytes count) first 0 start ≡ ended m
       → T (sized count first last)
       → stringsOf count first last ≡ accepted n k c t
       → (w : Walked)
-      → walkOf true (maskBytes count) last (intoRO m) ≡ w
+      → walkOf true (maskBytes count) last 0 (intoRO m) ≡ w
       → after w (λ e. accepted (m .number) (e .number - m .number) (m .sum) (e .sum)) ≡ accepted n k c t
       → Map-accepted count first last n k c t
   second m p z y (stopped r) q h = let o : _≡_ {A = ℕ} 0 1 = cc in absurd (omega arith)
@@ -166,17 +181,17 @@ module _ (count : ℕ) (first last : List ℕ) (n k c t : ℕ) where
       rw (← n1, ← n2, ← n3, ← n4) (both-ended count first last m e p q z (y ∙ sym h))
 
   strings-accepted : T (sized count first last) → stringsOf count first last ≡ accepted n k c t → Map-accepted count first last n k c t
-  strings-accepted z h = go (walkOf false (maskBytes count) first start) refl (split h)
+  strings-accepted z h = go (walkOf false (maskBytes count) first 0 start) refl (split h)
     where
       split : stringsOf count first last ≡ accepted n k c t
-          → after (walkOf false (maskBytes count) first start) (λ m. after (walkOf true (maskBytes count) last (intoRO m)) (λ e. accepted (m .number) (e .number - m .number) (m .sum) (e .sum))) ≡ accepted n k c t
+          → after (walkOf false (maskBytes count) first 0 start) (λ m. after (walkOf true (maskBytes count) last 0 (intoRO m)) (λ e. accepted (m .number) (e .number - m .number) (m .sum) (e .sum))) ≡ accepted n k c t
       split x = sym (strings-def count first last) ∙ x
 
-      go : (w : Walked) → walkOf false (maskBytes count) first start ≡ w
-          → after w (λ m. after (walkOf true (maskBytes count) last (intoRO m)) (λ e. accepted (m .number) (e .number - m .number) (m .sum) (e .sum))) ≡ accepted n k c t
+      go : (w : Walked) → walkOf false (maskBytes count) first 0 start ≡ w
+          → after w (λ m. after (walkOf true (maskBytes count) last 0 (intoRO m)) (λ e. accepted (m .number) (e .number - m .number) (m .sum) (e .sum))) ≡ accepted n k c t
           → Map-accepted count first last n k c t
       go (stopped r) p x = let o : _≡_ {A = ℕ} 0 1 = cc in absurd (omega arith)
-      go (ended m) p x = second m p z h (walkOf true (maskBytes count) last (intoRO m)) refl x
+      go (ended m) p x = second m p z h (walkOf true (maskBytes count) last 0 (intoRO m)) refl x
 
   pub load-accepted : loadOf count first last ≡ accepted n k c t → Map-accepted count first last n k c t
   unfolding loadOf

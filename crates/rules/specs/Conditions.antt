@@ -44,52 +44,58 @@ InTable id = ((0x02 ≤ id) × (id ≤ 0x08)) ⊎ ((0x0F ≤ id) × (id ≤ 0x12
 abbrev pub MediaSide : ℕ → List ℕ → ℕ → Type 0
 MediaSide a s at = InTable (byteAt s at) × (byteAt s (at + 3 + a) % 2 ≡ 1)
 
--- an entry at a state's place of a string, by its bytes; `left` is the number of bytes left
-abbrev pub entryRules : Bool → ℕ → List ℕ → State → List (Rule ℕ)
-entryRules ro a s st =
-    let left : ℕ = length s - st .at in
-    let id : ℕ = byteAt s (st .at) in
-    let size : ℕ = byteAt s (st .at + 1) in
-    let memory : ℕ = byteAt s (st .at + 2 + a) in
-    let step : ℕ = byteAt s (st .at + 5 + a) in
+-- an entry at a place of a string, by its bytes, for a walk that keeps a state; `left` is the number of bytes left
+abbrev pub entryRules : Bool → ℕ → List ℕ → ℕ → State → List (Rule ℕ)
+entryRules ro a s at st =
+    let left : ℕ = length s - at in
+    let id : ℕ = byteAt s at in
+    let size : ℕ = byteAt s (at + 1) in
+    let memory : ℕ = byteAt s (at + 2 + a) in
+    let step : ℕ = byteAt s (at + 5 + a) in
     gives 1 ((left ≡ 1) ⊎ (left < size))
     ∷ gives 2 (BelowLeast a id size)
     ∷ gives 3 (WrongString ro id)
     ∷ gives 4 (BelowNeeded id memory)
     ∷ gives 5 ((id ≡ 0x12) × (3 < step))
-    ∷ gives 6 ((0x02 ≤ id) × (id ≤ 0x08) × (¬ (MediaSide a s (st .at))) × (st .media ≡ true))
+    ∷ gives 6 ((0x02 ≤ id) × (id ≤ 0x08) × (¬ (MediaSide a s at)) × (st .media ≡ true))
     ∷ gives 7 (256 < st .sum + memory)
     ∷ []
 
--- a walk from one state to another: each entry between them passes
-pub data Way (ro : Bool) (a : ℕ) (s : List ℕ) (end : State) : State → Type 0 where
-  here : Way ro a s end end
-  past : {st : State} (e : Entry) → st .at < length s → decodeAt ro a s st ≡ decoded e → Way ro a s end (next st e) → Way ro a s end st
+-- a walk from a place and a state to others: each entry between them passes
+pub data Way (ro : Bool) (a : ℕ) (s : List ℕ) (to : ℕ) (end : State) : ℕ → State → Type 0 where
+  here : Way ro a s to end to end
+  past : {at : ℕ} {st : State} (e : Entry)
+      → at < length s
+      → decodeAt ro a s at st ≡ decoded e
+      → Way ro a s to end (at + e .length) (next st e)
+      → Way ro a s to end at st
 
 -- "after a media-side table entry": one that the walk goes past
-abbrev pub PastMedia : {ro : Bool} {a : ℕ} {s : List ℕ} {end from : State} → Way ro a s end from → Type 0
+abbrev pub PastMedia : {ro : Bool} {a : ℕ} {s : List ℕ} {to : ℕ} {end : State} {from : ℕ} {st : State} → Way ro a s to end from st → Type 0
 PastMedia here = ⊥
-PastMedia {a} {s} (past {st} e l d w) = MediaSide a s (st .at) ⊎ PastMedia w
+PastMedia {a} {s} (past {at} e l d w) = MediaSide a s at ⊎ PastMedia w
 
 -- "The first entry that fails any check ends the load; its entry number is answered too."
-pub record Stops (ro : Bool) (a : ℕ) (s : List ℕ) (from : State) (x : Refusal) : Type 0 where
+pub record Stops (ro : Bool) (a : ℕ) (s : List ℕ) (from : ℕ) (begin : State) (x : Refusal) : Type 0 where
+  pub at : ℕ
   pub st : State
-  pub way : Way ro a s st from
-  pub left : st .at < length s
+  pub way : Way ro a s at st from begin
+  pub left : at < length s
   pub number : ℕ
-  pub fails : decodeAt ro a s st ≡ failed number
+  pub fails : decodeAt ro a s at st ≡ failed number
   pub says : x ≡ atEntry number (st .number)
 
 -- no byte is left
-pub record Ends (ro : Bool) (a : ℕ) (s : List ℕ) (from end : State) : Type 0 where
-  pub way : Way ro a s end from
-  pub none : length s ≤ end .at
+pub record Ends (ro : Bool) (a : ℕ) (s : List ℕ) (from : ℕ) (begin end : State) : Type 0 where
+  pub at : ℕ
+  pub way : Way ro a s at end from begin
+  pub none : length s ≤ at
 
 -- "RW first, RO after"
 abbrev pub stringsRule : ℕ → List ℕ → List ℕ → Rule Refusal
 stringsRule count rw ro x =
-    Stops false (maskBytes count) rw start x
-    ⊎ ((middle : State) × Ends false (maskBytes count) rw start middle × Stops true (maskBytes count) ro (intoRO middle) x)
+    Stops false (maskBytes count) rw 0 start x
+    ⊎ ((middle : State) × Ends false (maskBytes count) rw 0 start middle × Stops true (maskBytes count) ro 0 (intoRO middle) x)
 
 -- The caller
 

@@ -32,11 +32,11 @@ pub record Keeps (b after : Bank) (isRefused : Type 0) : Type 0 where
 
 -- any strings, any count, any bank
 pub record Refusals (count : ℕ) (rw ro : List ℕ) (b : Bank) : Type 0 where
-  -- one entry, in a string of any content, at any state: the first check that it fails, in the order 1 to 7
-  pub one-entry : (inRO : Bool) (a : ℕ) (s : List ℕ) (st : State) (n : ℕ)
-      → (decodeAt inRO a s st ≡ failed n) ↔ First (entryRules inRO a s st) n
+  -- one entry, at any place of a string of any content, at any state: the first check that it fails, in the order 1 to 7
+  pub one-entry : (inRO : Bool) (a : ℕ) (s : List ℕ) (at : ℕ) (st : State) (n : ℕ)
+      → (decodeAt inRO a s at st ≡ failed n) ↔ First (entryRules inRO a s at st) n
   -- "after a media-side table entry of the RW string": what the state of a walk says is what the bytes that it went past say
-  pub media : (a : ℕ) (s : List ℕ) (st : State) (w : Way false a s st start) → (st .media ≡ true) ↔ PastMedia w
+  pub media : (a : ℕ) (s : List ℕ) (at : ℕ) (st : State) (w : Way false a s at st 0 start) → (st .media ≡ true) ↔ PastMedia w
   -- the calls of demand 3, fresh, and the calls beside: a refusal is answered exactly if it is the first in 01's order
   pub call : (c : Call) (x : Refusal)
       → (bankStep count rw ro c b .0 ≡ refused x) ↔ First (bankRules count rw ro b (callRules (mapOf count rw ro) c ++ planRules (mapOf count rw ro) c b)) x
@@ -94,8 +94,7 @@ lengths (e ∷ l) = e .length + lengths l
 pub record Fills (a : ℕ) (s : List ℕ) (l : List Entry) : Type 0 where
   pub ends : lengths l ≡ length s
   pub starts : (n : ℕ) → n < length l → getD l n nothing .start ≡ lengths (take n l)
-  pub says : (n : ℕ) → n < length l
-      → getD l n nothing ≡ entryAt a s (record { at = getD l n nothing .start; number = n; sum = getD l n nothing .offset; media = false })
+  pub says : (n : ℕ) → n < length l → getD l n nothing ≡ entryAt a s (getD l n nothing .start) (getD l n nothing .offset)
 
 -- the entry call's part is the entry's own bytes of the entry's own string
 pub record OwnBytes (count : ℕ) (rw ro : List ℕ) (e : ℕ) : Type 0 where

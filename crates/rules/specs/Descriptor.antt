@@ -46,19 +46,20 @@ abbrev pub mediaSide : ℕ → ℕ → Bool
 mediaSide parts flags = ltb 0 parts && eqb (flags % 2) 1
 
 -- "An entry is: ID, 1 byte; Length, 1 byte, counting the whole entry; application mask, A bytes, high byte first; MemoryLength,
--- 1 byte; for the IDs of the table, PropertyFlags, 1 byte; then the extras named in the table": the one at a state's place
-abbrev pub entryAt : ℕ → List ℕ → State → Entry
-entryAt a s st =
+-- 1 byte; for the IDs of the table, PropertyFlags, 1 byte; then the extras named in the table": the one at a place of a string
+-- with masks of a bytes, its offset given
+abbrev pub entryAt : ℕ → List ℕ → ℕ → ℕ → Entry
+entryAt a s at offset =
     record {
-      id = byteAt s (st .at);
-      start = st .at;
-      length = byteAt s (st .at + 1);
-      mask = highFirst s (st .at + 2) a;
-      memory = byteAt s (st .at + 2 + a);
-      media = mediaSide (rowOf (byteAt s (st .at)) .parts) (byteAt s (st .at + 3 + a));
-      codes = codesOf (rowOf (byteAt s (st .at)) .extras) s (st .at + 4 + a);
-      step = stepOf (rowOf (byteAt s (st .at)) .extras) s (st .at + 4 + a);
-      offset = st .sum;
+      id = byteAt s at;
+      start = at;
+      length = byteAt s (at + 1);
+      mask = highFirst s (at + 2) a;
+      memory = byteAt s (at + 2 + a);
+      media = mediaSide (rowOf (byteAt s at) .parts) (byteAt s (at + 3 + a));
+      codes = codesOf (rowOf (byteAt s at) .extras) s (at + 4 + a);
+      step = stepOf (rowOf (byteAt s at) .extras) s (at + 4 + a);
+      offset = offset;
     }
 
 -- whether an ID of a side may stand in a string: the test is true in the RO string
@@ -97,6 +98,6 @@ contentChecks ro st e =
     (refuse (ltb 256 (st .sum + e .memory)) 7
     (decoded e)))))
 
--- one entry: what stands at a state's place of a string with masks of a bytes
-unfoldable pub decodeAt : Bool → ℕ → List ℕ → State → Decoded
-decodeAt ro a s st = lengthChecks a (length s - st .at) (entryAt a s st) (contentChecks ro st (entryAt a s st))
+-- one entry: what stands at a place of a string, for a walk that keeps a state
+unfoldable pub decodeAt : Bool → ℕ → List ℕ → ℕ → State → Decoded
+decodeAt ro a s at st = lengthChecks a (length s - at) (entryAt a s at (st .sum)) (contentChecks ro st (entryAt a s at (st .sum)))

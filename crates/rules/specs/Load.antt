@@ -7,46 +7,47 @@ use lib.Dec.{ltb, leb}
 use Rattle.rules.specs.Words.{plain, atEntry, Entry, Decoded, decoded, failed, State, Walked, ended, stopped, Loaded, accepted, rejected}
 use Rattle.rules.specs.Descriptor.{maskBytes, decodeAt}
 
+-- What a walk keeps between two entries. A state is made here alone: at the beginning, past an entry, and into the RO string.
 abbrev pub start : State
-start = record { at = 0; number = 0; sum = 0; media = false }
+start = record { number = 0; sum = 0; media = false }
 
--- past an entry: "The next entry begins directly after the last byte."
 abbrev pub next : State → Entry → State
-next st e = record { at = st .at + e .length; number = st .number + 1; sum = st .sum + e .memory; media = st .media || e .media }
+next st e = record { number = st .number + 1; sum = st .sum + e .memory; media = st .media || e .media }
 
--- at the beginning of the RO string, entry numbers and sum going on
+-- "RW first, RO after": entry numbers and sum go on, and what has been passed stays so
 abbrev pub intoRO : State → State
-intoRO st = record { at = 0; number = st .number; sum = st .sum; media = st .media }
+intoRO st = record { number = st .number; sum = st .sum; media = st .media }
 
--- one step of a walk: what is made of a decode, given what the walk makes of each later state
-abbrev pub Step : Type 0 → Type 0
-Step A = Decoded → State → (State → A) → A
+-- one turn of a walk: what is made of a decode, given what the walk makes of all that follows an entry
+abbrev pub Turn : Type 0 → Type 0
+Turn A = Decoded → State → (Entry → A) → A
 
--- every walk of a string is this fold; an entry takes more than one byte, so the string's length bounds the steps
-unfoldable pub foldBy : {A : Type 0} → Step A → (State → A) → Bool → ℕ → ℕ → List ℕ → State → A
-foldBy step end ro a zero s st = end st
-foldBy {A} step end ro a (suc fuel) s st =
-    let more : A = step (decodeAt ro a s st) st (foldBy step end ro a fuel s) in
-    cond (ltb (st .at) (length s)) more (end st)
+-- every walk of a string, from a place and a state on, is this fold: "The next entry begins directly after the last byte." An entry
+-- takes more than one byte, so the string's length bounds the turns
+unfoldable pub foldBy : {A : Type 0} → Turn A → (State → A) → Bool → ℕ → ℕ → List ℕ → ℕ → State → A
+foldBy on end ro a zero s at st = end st
+foldBy {A} on end ro a (suc fuel) s at st =
+    let more : A = on (decodeAt ro a s at st) st (λ e. foldBy on end ro a fuel s (at + e .length) (next st e)) in
+    cond (ltb at (length s)) more (end st)
 
-unfoldable pub foldOf : {A : Type 0} → Step A → (State → A) → Bool → ℕ → List ℕ → State → A
-foldOf step end ro a s st = foldBy step end ro a (length s) s st
+unfoldable pub foldOf : {A : Type 0} → Turn A → (State → A) → Bool → ℕ → List ℕ → ℕ → State → A
+foldOf on end ro a s at st = foldBy on end ro a (length s) s at st
 
 -- "The first entry that fails any check ends the load; its entry number is answered too."
-abbrev pub onward : Step Walked
-onward (decoded e) st k = k (next st e)
+abbrev pub onward : Turn Walked
+onward (decoded e) st k = k e
 onward (failed n) st k = stopped (atEntry n (st .number))
 
-unfoldable pub walkOf : Bool → ℕ → List ℕ → State → Walked
-walkOf ro a s st = foldOf onward ended ro a s st
+unfoldable pub walkOf : Bool → ℕ → List ℕ → ℕ → State → Walked
+walkOf ro a s at st = foldOf onward ended ro a s at st
 
--- the entries of a string, each with its offset
-abbrev pub gather : Step (List Entry)
-gather (decoded e) st k = e ∷ k (next st e)
+-- the entries of a string from a place on, each with its offset
+abbrev pub gather : Turn (List Entry)
+gather (decoded e) st k = e ∷ k e
 gather (failed n) st k = []
 
-unfoldable pub entriesFrom : Bool → ℕ → List ℕ → State → List Entry
-entriesFrom ro a s st = foldOf gather (λ _. []) ro a s st
+unfoldable pub entriesFrom : Bool → ℕ → List ℕ → ℕ → State → List Entry
+entriesFrom ro a s at st = foldOf gather (λ _. []) ro a s at st
 
 -- 9: "count not 1 to 15, or a string over 120"
 abbrev pub sized : ℕ → List ℕ → List ℕ → Bool
@@ -59,8 +60,8 @@ after (stopped r) k = rejected r
 -- 1 to 7 over both strings
 unfoldable pub stringsOf : ℕ → List ℕ → List ℕ → Loaded
 stringsOf count rw ro =
-    after (walkOf false (maskBytes count) rw start) λ m.
-    after (walkOf true (maskBytes count) ro (intoRO m)) λ e.
+    after (walkOf false (maskBytes count) rw 0 start) λ m.
+    after (walkOf true (maskBytes count) ro 0 (intoRO m)) λ e.
     accepted (m .number) (e .number - m .number) (m .sum) (e .sum)
 
 -- the whole load: 9, then 1 to 7; answers both entry counts, staged and active length
@@ -69,14 +70,14 @@ loadOf count rw ro = cond (sized count rw ro) (stringsOf count rw ro) (rejected 
 
 -- "Entries are numbered from 0, RW first, RO after."
 unfoldable pub rwEntries : ℕ → List ℕ → List Entry
-rwEntries count rw = entriesFrom false (maskBytes count) rw start
+rwEntries count rw = entriesFrom false (maskBytes count) rw 0 start
 
 abbrev pub onEnd : Walked → (State → List Entry) → List Entry
 onEnd (ended st) k = k st
 onEnd (stopped r) k = []
 
 unfoldable pub roEntries : ℕ → List ℕ → List ℕ → List Entry
-roEntries count rw ro = onEnd (walkOf false (maskBytes count) rw start) λ st. entriesFrom true (maskBytes count) ro (intoRO st)
+roEntries count rw ro = onEnd (walkOf false (maskBytes count) rw 0 start) λ st. entriesFrom true (maskBytes count) ro 0 (intoRO st)
 
 unfoldable pub entriesOf : ℕ → List ℕ → List ℕ → List Entry
 entriesOf count rw ro = rwEntries count rw ++ roEntries count rw ro

@@ -60,10 +60,9 @@ pub enum Decoded {
     Refused(usize),
 }
 
-// Where a walk stands: the place in the string, the number of the next entry, the sum of the MemoryLengths before it, and
-// whether a media-side table entry has been passed.
+// What a walk keeps between two entries, beside its place in the string: the number of the next entry, the sum of the
+// MemoryLengths before it, and whether a media-side table entry has been passed.
 pub struct State {
-    pub at: usize,
     pub number: usize,
     pub sum: usize,
     pub media: bool,

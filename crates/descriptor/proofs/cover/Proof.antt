@@ -10,7 +10,7 @@ use Rattle.rules.specs.Descriptor.{maskBytes, byteAt}
 use Rattle.rules.specs.Load.{loadOf}
 use Rattle.descriptor.specs.declared.Covered.the-variants.{By as by}
 use Rattle.descriptor.specs.Cover.{coverOf, Hits}
-use Rattle.descriptor.proofs.Covers.{cover-rejected, seeks-first, seeks-last, covers-first, past-first, covers-last, covers-none}
+use Rattle.descriptor.proofs.Covers.{cover-rejected, covers-seeks, covers-found, covers-past, covers-none}
 use borrow.Author.Needs.{needs}
 use Rattle.descriptor.proofs.cover.Statement.{statement}
 use Rattle.descriptor.proofs.cover.Tie as tie
@@ -41,11 +41,11 @@ in-first : (c : tie.Then1) →
     let k = c .before .before .before .before in
     let g = k .before .before .before .before .before .before .args in
     let h = c .before .before .look .result in
-    (h .at < length (now (g .rw))) × (by false (h .number) (byteAt (now (g .rw)) (h .at)) (h .sum) ≡ coverOf (g .count) (now (g .rw)) (now (g .ro)) (g .offset))
+    (h .at < length (now (g .rw))) × (by false (h .number) (byteAt (now (g .rw)) (h .at)) (h .sum) ≡ coverOf (g .count) (now (g .rw)) (now (g .ro)) (g .offset)) × (h .number ≤ 240)
 in-first c =
     let k = c .before .before .before .before in
     let g = k .before .before .before .before .before .before .args in
-    covers-first (g .count) (now (g .rw)) (now (g .ro)) (g .offset) _ _ _ _ (loads k) (first (c .before .before)) (c .if1 .taken)
+    covers-found (g .count) (now (g .rw)) (now (g .ro)) (g .offset) _ _ _ _ (loads k) false (first (c .before .before)) (c .if1 .taken)
 
 in-last : (c : tie.Then2) →
     let k = c .before .before .before .before .before .before .before in
@@ -56,7 +56,7 @@ in-last : (c : tie.Then2) →
 in-last c =
     let k = c .before .before .before .before .before .before .before in
     let g = k .before .before .before .before .before .before .args in
-    covers-last (g .count) (now (g .rw)) (now (g .ro)) (g .offset) _ _ _ _ (loads k) (last (c .before .before)) (c .if2 .taken)
+    covers-found (g .count) (now (g .rw)) (now (g .ro)) (g .offset) _ _ _ _ (loads k) true (last (c .before .before)) (c .if2 .taken)
 
 load-requires : tie.Need-load-requires
 load-requires c κs = search needs
@@ -74,7 +74,7 @@ look-requires : tie.Need-look-requires
 look-requires c κs =
     let k = c .before in
     let g = k .before .before .before .before .before .before .args in
-    (rw (c .mask-bytes .ensures .0) (seeks-first (g .count) (now (g .rw)) (now (g .ro)) (g .offset) _ _ _ _ (loads k)), omega arith)
+    (rw (c .mask-bytes .ensures .0) (covers-seeks (g .count) (now (g .rw)) (now (g .ro)) (g .offset) _ _ _ _ (loads k) false), omega arith)
 
 shared-slice-read-t18 : tie.Need-shared-slice-read-t18
 shared-slice-read-t18 c = in-first (c .before) .0
@@ -91,8 +91,8 @@ look-requires-2 c κs =
     let m = l .before in
     let k = m .before in
     let g = k .before .before .before .before .before .before .args in (
-      rw (m .mask-bytes .ensures .0) (seeks-last (g .count) (now (g .rw)) (now (g .ro)) (g .offset) _ _ _ _ (loads k)),
-      past-first (g .count) (now (g .rw)) (now (g .ro)) (g .offset) _ _ _ _ (loads k) (first l) (c .if1 .left),
+      rw (m .mask-bytes .ensures .0) (covers-seeks (g .count) (now (g .rw)) (now (g .ro)) (g .offset) _ _ _ _ (loads k) true),
+      covers-past (g .count) (now (g .rw)) (now (g .ro)) (g .offset) _ _ _ _ (loads k) false (first l) (c .if1 .left),
     )
 
 add-t20 : tie.Need-add-t20
@@ -118,7 +118,8 @@ returns-4 c =
     let l = c .before .before in
     let k = l .before .before .before .before .before in
     let g = k .before .before .before .before .before .before .args in
-    covers-none (g .count) (now (g .rw)) (now (g .ro)) (g .offset) _ _ _ _ (loads k) (last l) (c .if2 .left)
+    let past = covers-past (g .count) (now (g .rw)) (now (g .ro)) (g .offset) _ _ _ _ (loads k) true (last l) (c .if2 .left) in
+    covers-none (g .count) (now (g .rw)) (now (g .ro)) (g .offset) _ _ _ _ (loads k) past
 
 pub cover-spec : {M : Type 1} → statement M
 cover-spec =

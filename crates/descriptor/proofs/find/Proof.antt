@@ -7,7 +7,6 @@ use Prim.Native.Nat.{_≤_}
 use denote.Ref.{now}
 use Rattle.rules.specs.Descriptor.{maskBytes, entryAt}
 use Rattle.descriptor.specs.declared.Found.{Found}
-use Rattle.descriptor.specs.Wide.{standingAt}
 use Rattle.descriptor.specs.Find.{namedOf, foundOf}
 use Rattle.descriptor.proofs.Finds.{found-9, found-8, located-refused-found, located-found}
 use Rattle.descriptor.proofs.find.Statement.{statement}
@@ -17,7 +16,7 @@ use Rattle.descriptor.proofs.find.Tie as tie
 reads : (c : tie.After-known-told2) →
     let g = c .before .before .before .before .before .before .before .args in
     let x = c .before .place2 .given .0 in
-    (Found.In (namedOf (x .0) (entryAt (maskBytes (g .count)) (cond (x .0) (now (g .ro)) (now (g .rw))) (standingAt (x .1 .0) (x .1 .1 .1 .0)))) ≡ foundOf (g .count) (now (g .rw)) (now (g .ro)) (g .short) (g .entry))
+    (Found.In (namedOf (x .0) (entryAt (maskBytes (g .count)) (cond (x .0) (now (g .ro)) (now (g .rw))) (x .1 .0) (x .1 .1 .1 .0))) ≡ foundOf (g .count) (now (g .rw)) (now (g .ro)) (g .short) (g .entry))
     × (x .1 .0 ≤ 120)
 reads c =
     let k = c .before .before .before in

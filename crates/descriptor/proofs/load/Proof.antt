@@ -35,11 +35,11 @@ sizes c =
     record { first = leb→le _ _ z; last = leb→le _ _ w }
 
 -- the walks are those of the rules, with their mask bytes
-first-walk : (c : tie.After-scan) → let g = c .before .before .before .before .before .before .before .before .args in walkOf false (maskBytes (g .count)) (now (g .rw)) start ≡ c .scan .result
-first-walk c = rw (← c .before .before .before .mask-bytes .ensures .0) (sym (c .scan .ensures))
+first-walk : (c : tie.After-scan) → let g = c .before .before .before .before .before .before .before .before .before .args in walkOf false (maskBytes (g .count)) (now (g .rw)) 0 start ≡ c .scan .result
+first-walk c = rw (← c .before .before .before .before .mask-bytes .ensures .0) (sym (rw (c .before .start .ensures) at (c .scan .ensures)))
 
 -- the state at the end of the RW string
-middle : (c : tie.After-known-told) → let g = c .before .before .before .before .before .before .before .before .before .before .before .args in walkOf false (maskBytes (g .count)) (now (g .rw)) start ≡ ended (c .before .first .given .0 .0)
+middle : (c : tie.After-known-told) → let g = c .before .before .before .before .before .before .before .before .before .before .before .before .args in walkOf false (maskBytes (g .count)) (now (g .rw)) 0 start ≡ ended (c .before .first .given .0 .0)
 middle c = first-walk (c .before .before .before) ∙ c .before .first .given .1
 
 record Ended (st : State) : Type 0 where
@@ -48,21 +48,21 @@ record Ended (st : State) : Type 0 where
 
 ended-at : (c : tie.After-known-told) → Ended (c .before .first .given .0 .0)
 ended-at c =
-    let z = sizes (c .before .before .before .before .before .before .before) in
-    let (x, y, v) = walk-counts _ _ _ start _ (omega arith) (middle c) in
+    let z = sizes (c .before .before .before .before .before .before .before .before) in
+    let (x, y, v) = walk-counts _ _ _ 0 start _ (omega arith) (middle c) in
     record { number = omega arith; sum = v }
 
 second-walk : (c : tie.After-scan2) →
-    let k = c .before .before .before in
-    let g = k .before .before .before .before .before .before .before .before .before .before .before .args in
-    walkOf true (maskBytes (g .count)) (now (g .ro)) (intoRO (k .before .first .given .0 .0)) ≡ c .scan2 .result
-second-walk c = rw (← c .before .before .before .before .before .before .before .before .before .mask-bytes .ensures .0) (sym (c .scan2 .ensures))
+    let k = c .before .before .before .before in
+    let g = k .before .before .before .before .before .before .before .before .before .before .before .before .args in
+    walkOf true (maskBytes (g .count)) (now (g .ro)) 0 (intoRO (k .before .first .given .0 .0)) ≡ c .scan2 .result
+second-walk c = rw (← c .before .before .before .before .before .before .before .before .before .before .before .mask-bytes .ensures .0) (sym (rw (c .before .into-ro .ensures) at (c .scan2 .ensures)))
 
 -- the state at the end of the RO string
 last : (c : tie.After-known-told2) →
-    let k = c .before .before .before .before .before .before in
-    let g = k .before .before .before .before .before .before .before .before .before .before .before .args in
-    walkOf true (maskBytes (g .count)) (now (g .ro)) (intoRO (k .before .first .given .0 .0)) ≡ ended (c .before .last .given .0 .0)
+    let k = c .before .before .before .before .before .before .before in
+    let g = k .before .before .before .before .before .before .before .before .before .before .before .before .args in
+    walkOf true (maskBytes (g .count)) (now (g .ro)) 0 (intoRO (k .before .first .given .0 .0)) ≡ ended (c .before .last .given .0 .0)
 last c = second-walk (c .before .before .before) ∙ c .before .last .given .1
 
 in-limits-requires : tie.Need-in-limits-requires
@@ -76,20 +76,22 @@ returns c =
 mask-bytes-requires : tie.Need-mask-bytes-requires
 mask-bytes-requires c κs = search needs
 
+start-requires : tie.Need-start-requires
+start-requires c κs = search needs
+
 scan-requires : tie.Need-scan-requires
 scan-requires c κs =
-    let k = c .before .before in
+    let k = c .before .before .before in
     let z = sizes (k .before) in
-    record {
+    rw (c .start .ensures) (record {
       classes-is = refl;
       table-is = refl;
       mask-low = k .mask-bytes .ensures .1;
       mask-top = k .mask-bytes .ensures .2;
-      begins = refl;
       short = z .first;
       number = omega arith;
       sum = omega arith;
-    }
+    })
 
 enum-known-first : tie.Need-enum-known-first
 enum-known-first c = search needs
@@ -104,25 +106,27 @@ returns-2 : tie.Need-returns-2
 returns-2 c =
     let t = c .before in
     let k = t .before .before in
-    let g = k .before .before .before .before .before .before .before .before .args in
+    let g = k .before .before .before .before .before .before .before .before .before .args in
     let q : c .refused .result ≡ rejected (t .enum-told .given .0 .0) = c .refused .ensures ∙ rw (t .enum-told .given .1) refl in
-    rw q (sym (load-strings (g .count) (now (g .rw)) (now (g .ro)) (fine (k .before .before .before .before))
+    rw q (sym (load-strings (g .count) (now (g .rw)) (now (g .ro)) (fine (k .before .before .before .before .before))
     ∙ strings-rw-refused (g .count) (now (g .rw)) (now (g .ro)) _ (first-walk k ∙ t .enum-told .given .1)))
+
+into-ro-requires : tie.Need-into-ro-requires
+into-ro-requires c κs = search needs
 
 scan-requires-2 : tie.Need-scan-requires-2
 scan-requires-2 c κs =
-    let u = c .before .before in
-    let k = u .before .before .before .before .before .before in
-    record {
+    let u = c .before .before .before in
+    let k = u .before .before .before .before .before .before .before in
+    rw (c .into-ro .ensures) (record {
       classes-is = refl;
       table-is = refl;
       mask-low = k .mask-bytes .ensures .1;
       mask-top = k .mask-bytes .ensures .2;
-      begins = refl;
       short = sizes (k .before) .last;
       number = omega (arith, ended-at u .number);
       sum = ended-at u .sum;
-    }
+    })
 
 enum-known-last : tie.Need-enum-known-last
 enum-known-last c = search needs
@@ -137,24 +141,24 @@ returns-3 : tie.Need-returns-3
 returns-3 c =
     let t = c .before in
     let k2 = t .before .before in
-    let u = k2 .before .before .before in
-    let g = u .before .before .before .before .before .before .before .before .before .before .before .args in
+    let u = k2 .before .before .before .before in
+    let g = u .before .before .before .before .before .before .before .before .before .before .before .before .args in
     let q : c .refused2 .result ≡ rejected (t .enum-told2 .given .0 .0) = c .refused2 .ensures ∙ rw (t .enum-told2 .given .1) refl in
-    rw q (sym (load-strings (g .count) (now (g .rw)) (now (g .ro)) (fine (u .before .before .before .before .before .before .before))
+    rw q (sym (load-strings (g .count) (now (g .rw)) (now (g .ro)) (fine (u .before .before .before .before .before .before .before .before))
     ∙ strings-ro-refused (g .count) (now (g .rw)) (now (g .ro)) _ (middle u) _ (second-walk k2 ∙ t .enum-told2 .given .1)))
 
-sub-t20 : tie.Need-sub-t20
-sub-t20 c =
+sub-t21 : tie.Need-sub-t21
+sub-t21 c =
     let e = c .before .before in
-    let u = e .before .before .before .before .before .before in
-    omega (arith, walk-counts _ _ _ (intoRO (u .before .first .given .0 .0)) _ (ended-at u .sum) (last e) .0)
+    let u = e .before .before .before .before .before .before .before in
+    omega (arith, walk-counts _ _ _ 0 (intoRO (u .before .first .given .0 .0)) _ (ended-at u .sum) (last e) .0)
 
 returns-4 : tie.Need-returns-4
 returns-4 c =
     let e = c .before .before in
-    let u = e .before .before .before .before .before .before in
-    let g = u .before .before .before .before .before .before .before .before .before .before .before .args in
-    sym (both-load (g .count) (now (g .rw)) (now (g .ro)) (fine (u .before .before .before .before .before .before .before)) _ _ (middle u) (last e))
+    let u = e .before .before .before .before .before .before .before in
+    let g = u .before .before .before .before .before .before .before .before .before .before .before .before .args in
+    sym (both-load (g .count) (now (g .rw)) (now (g .ro)) (fine (u .before .before .before .before .before .before .before .before)) _ _ (middle u) (last e))
 
 pub load-spec : {M : Type 1} → statement M
 load-spec =
@@ -163,15 +167,17 @@ load-spec =
     in-limits-requires
     returns
     mask-bytes-requires
+    start-requires
     scan-requires
     enum-known-first
     enum-told
     refused-requires
     returns-2
+    into-ro-requires
     scan-requires-2
     enum-known-last
     enum-told-2
     refused-requires-2
     returns-3
-    sub-t20
+    sub-t21
     returns-4)

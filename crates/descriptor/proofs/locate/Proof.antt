@@ -1,6 +1,7 @@
 -- `locate` meets its contract.
 use borrow.Author.Needs.{needs}
-use mathlib.Core.Path.{_≡_, sym, _∙_}
+use mathlib.Core.Path.{_≡_, refl, sym, _∙_}
+use mathlib.Core.Bool.{true, false}
 use Prim.Native.Nat.{_+_, _-_, _<_}
 use native.Mathlib.Omega.{arith}
 use lib.ListN.{length}
@@ -8,8 +9,8 @@ use denote.Ref.{now}
 use Rattle.rules.specs.declared.Loaded.the-variants.{Accepted as accepted}
 use Rattle.rules.specs.Descriptor.{maskBytes}
 use Rattle.rules.specs.Load.{loadOf}
-use Rattle.descriptor.specs.Seek.{markAfter}
-use Rattle.descriptor.proofs.Locates.{located-refused, seeks-rw, inside-rw, located-rw, seeks-ro, inside-ro, located-ro, located-10}
+use Rattle.descriptor.specs.Marks.{markAfter}
+use Rattle.descriptor.proofs.Locates.{located-refused, located-seeks, located-inside, located-at, located-10}
 use Rattle.descriptor.proofs.locate.Statement.{statement}
 use Rattle.descriptor.proofs.locate.Tie as tie
 
@@ -20,11 +21,13 @@ loads : (c : tie.After-known-told2) →
     loadOf (g .count) (now (g .rw)) (now (g .ro)) ≡ accepted (x .0) (x .1 .0) (x .1 .1 .0) (x .1 .1 .1 .0)
 loads c = sym (c .before .before .before .load .ensures) ∙ c .before .loaded2 .given .1
 
-below : (c : tie.Then2) →
+-- the number of an entry of the RO string
+number : (c : tie.Then2) →
     let k = c .before .before .before in
+    let g = k .before .before .before .before .before .before .args in
     let x = k .before .loaded2 .given .0 in
-    k .before .before .before .before .before .before .args .entry < x .0 + x .1 .0
-below c = omega (arith, c .if2 .taken, c .before .if1 .left)
+    g .entry ≡ x .0 + (g .entry - x .0)
+number c = omega (arith, c .before .if1 .left)
 
 -- where the search ends
 first-mark : (c : tie.After-seek) →
@@ -44,13 +47,13 @@ first-inside : (c : tie.After-seek) → let k = c .before .before .before in c .
 first-inside c =
     let k = c .before .before .before in
     let g = k .before .before .before .before .before .before .args in
-    inside-rw (g .count) (now (g .rw)) (now (g .ro)) (g .entry) _ _ _ _ (loads k) (c .before .if1 .taken) _ (first-mark c)
+    located-inside (g .count) (now (g .rw)) (now (g .ro)) (g .entry) _ _ _ _ (loads k) false (g .entry) (c .before .if1 .taken) refl _ (first-mark c)
 
 last-inside : (c : tie.After-seek2) → let k = c .before .before .before .before in c .seek2 .result .at + 1 < length (now (k .before .before .before .before .before .before .args .ro))
 last-inside c =
     let k = c .before .before .before .before in
     let g = k .before .before .before .before .before .before .args in
-    inside-ro (g .count) (now (g .rw)) (now (g .ro)) (g .entry) _ _ _ _ (loads k) (c .before .before .if1 .left) (below (c .before)) _ (last-mark c)
+    located-inside (g .count) (now (g .rw)) (now (g .ro)) (g .entry) _ _ _ _ (loads k) true _ (c .before .if2 .taken) (number (c .before)) _ (last-mark c)
 
 load-requires : tie.Need-load-requires
 load-requires c κs = search needs
@@ -68,7 +71,7 @@ seek-requires : tie.Need-seek-requires
 seek-requires c κs =
     let k = c .before .before in
     let g = k .before .before .before .before .before .before .args in
-    rw (c .before .mask-bytes .ensures .0) (seeks-rw (g .count) (now (g .rw)) (now (g .ro)) (g .entry) _ _ _ _ (loads k) (c .if1 .taken))
+    rw (c .before .mask-bytes .ensures .0) (located-seeks (g .count) (now (g .rw)) (now (g .ro)) (g .entry) _ _ _ _ (loads k) false (g .entry) (c .if1 .taken) refl)
 
 add-t16 : tie.Need-add-t16
 add-t16 c = omega (arith, first-inside (c .before))
@@ -84,13 +87,13 @@ returns c =
     let s = c .before .before in
     let k = s .before .before .before in
     let g = k .before .before .before .before .before .before .args in
-    located-rw (g .count) (now (g .rw)) (now (g .ro)) (g .entry) _ _ _ _ (loads k) (s .before .if1 .taken) _ (first-mark s)
+    located-at (g .count) (now (g .rw)) (now (g .ro)) (g .entry) _ _ _ _ (loads k) false (g .entry) (s .before .if1 .taken) refl _ (first-mark s)
 
 seek-requires-2 : tie.Need-seek-requires-2
 seek-requires-2 c κs =
     let k = c .before .before .before in
     let g = k .before .before .before .before .before .before .args in
-    rw (c .before .before .mask-bytes .ensures .0) (seeks-ro (g .count) (now (g .rw)) (now (g .ro)) (g .entry) _ _ _ _ (loads k) (c .before .if1 .left) (below c))
+    rw (c .before .before .mask-bytes .ensures .0) (located-seeks (g .count) (now (g .rw)) (now (g .ro)) (g .entry) _ _ _ _ (loads k) true _ (c .if2 .taken) (number c))
 
 add-t20 : tie.Need-add-t20
 add-t20 c = omega (arith, last-inside (c .before))
@@ -106,7 +109,7 @@ returns-2 c =
     let s = c .before .before in
     let k = s .before .before .before .before in
     let g = k .before .before .before .before .before .before .args in
-    located-ro (g .count) (now (g .rw)) (now (g .ro)) (g .entry) _ _ _ _ (loads k) (s .before .before .if1 .left) (below (s .before)) _ (last-mark s)
+    located-at (g .count) (now (g .rw)) (now (g .ro)) (g .entry) _ _ _ _ (loads k) true _ (s .before .if2 .taken) (number (s .before)) _ (last-mark s)
 
 returns-3 : tie.Need-returns-3
 returns-3 c =

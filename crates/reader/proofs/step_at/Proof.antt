@@ -10,7 +10,6 @@ use denote.Ref.{now}
 use borrow.Author.Tests.{ltb-false, eq-eqb, ne-eqb, not-true, not-false}
 use Rattle.rules.specs.Descriptor.{maskBytes, entryAt, overruns}
 use Rattle.rules.specs.Load.{sized}
-use Rattle.rules.specs.Reader.{standing}
 use Rattle.reader.proofs.Ways.{take-9, take-end, take-1, take-2, take-entry}
 use Rattle.reader.proofs.step_at.Statement.{statement}
 use Rattle.reader.proofs.step_at.Tie as tie
@@ -23,7 +22,7 @@ length-lt : (c : tie.After-shared-slice-known2) → let g = c .before .before .b
 length-lt c = let g = c .before .before .before .before .before .before .before .args in c .shared-slice-known2 .given (g .at + 1) .fits
 
 -- 1 is passed
-one : (c : tie.Else4) → let g = c .before .before .before .before .before .before .before .before .before .before .args in overruns (length (now (g .s)) - g .at) (entryAt (maskBytes (g .count)) (now (g .s)) (standing (g .at))) ≡ false
+one : (c : tie.Else4) → let g = c .before .before .before .before .before .before .before .before .before .before .args in overruns (length (now (g .s)) - g .at) (entryAt (maskBytes (g .count)) (now (g .s)) (g .at) 0) ≡ false
 one c = rw (ne-eqb _ _ (c .before .before .before .before .if3 .left), c .if4 .left) refl
 
 slice-aggregate-limits : tie.Need-slice-aggregate-limits

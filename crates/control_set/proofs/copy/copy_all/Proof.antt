@@ -5,24 +5,23 @@ use native.Mathlib.Omega.{arith}
 use lib.ListN.{length, getD}
 use denote.Ref.{now}
 use borrow.Author.Needs.{needs}
-use Rattle.rules.specs.Descriptor.{byteAt, entryAt}
+use Rattle.rules.specs.Descriptor.{entryAt}
 use Rattle.rules.specs.Load.{rwEntries}
 use Rattle.rules.specs.Place.{nothing}
-use Rattle.descriptor.specs.Wide.{standingAt}
 use Rattle.control_set.specs.Plan.{Spread, fieldsOf, copyEntry, copyAmong}
 use Rattle.control_set.proofs.Copies.{Upto, upto-none, asked-kept, entry-turn}
 use Rattle.control_set.proofs.Wanted.{wants-kept, clear-kept}
-use Rattle.control_set.proofs.Passed.{Passed, passed-none, passed-small, passed-entry, passed-next, passed-spread}
+use Rattle.control_set.proofs.Passed.{Passed, passed-none, passed-place, passed-entry, passed-next, passed-spread}
 use Rattle.control_set.proofs.copy.copy_all.Statement.{statement}
 use Rattle.control_set.proofs.copy.copy_all.Tie as tie
 
 abbrev Inv-loop : tie.InvT-loop
-Inv-loop classes rows values chosen apps first entries bank₀ a number₀ at₀ sum₀ bank number at sum =
-    Passed (rwEntries (chosen .count) first) number at sum
+Inv-loop classes rows values chosen apps first entries bank₀ a number₀ mark₀ bank number mark =
+    Passed (chosen .count) first number mark
     × Upto (λ n. copyEntry chosen (fieldsOf (getD (rwEntries (chosen .count) first) n nothing)) bank₀) number bank₀ bank
 
 abbrev μ-loop : tie.MeasureT-loop
-μ-loop classes rows values chosen apps first entries bank₀ a number₀ at₀ sum₀ bank number at sum = entries - number
+μ-loop classes rows values chosen apps first entries bank₀ a number₀ mark₀ bank number mark = entries - number
 
 -- the entry that is read, and its fields
 there : (c : tie.In-loop Inv-loop μ-loop) → let s = c .before .before .before .before .before in c .before .loop .number < length (rwEntries (s .args .chosen .count) (now (s .args .rw)))
@@ -32,33 +31,12 @@ entry : (c : tie.In-loop Inv-loop μ-loop) →
     let l = c .before in
     let k = l .before in
     let s = k .before .before .before in
-    entryAt (k .mask-bytes .result) (now (s .args .rw)) (standingAt (l .loop .at) (l .loop .sum)) ≡ getD (rwEntries (s .args .chosen .count) (now (s .args .rw))) (l .loop .number) nothing
+    entryAt (k .mask-bytes .result) (now (s .args .rw)) (l .loop .mark .at) (l .loop .mark .sum) ≡ getD (rwEntries (s .args .chosen .count) (now (s .args .rw))) (l .loop .number) nothing
 entry c =
     let l = c .before in
     let k = l .before in
     let s = k .before .before .before in
     rw (k .mask-bytes .ensures .0) (passed-entry (s .pre .0 .1) (l .loop .inv .0) (there c))
-
-small : (c : tie.In-loop Inv-loop μ-loop) →
-    let l = c .before in
-    let k = l .before in
-    let b = now (k .before .before .before .args .rw) in
-    (l .loop .at + byteAt b (l .loop .at + 1) ≤ 120) × (l .loop .sum + byteAt b (l .loop .at + 2 + k .mask-bytes .result) ≤ 256)
-small c =
-    let l = c .before in
-    let s = l .before .before .before .before in
-    rw (ap (λ e. e .length) (entry c), ap (λ e. e .memory) (entry c)) (passed-small (s .pre .0 .1) (l .loop .inv .0) (there c))
-
-next : (c : tie.In-loop Inv-loop μ-loop) →
-    let l = c .before in
-    let k = l .before in
-    let s = k .before .before .before in
-    let b = now (s .args .rw) in
-    Passed (rwEntries (s .args .chosen .count) b) (l .loop .number + 1) (l .loop .at + byteAt b (l .loop .at + 1)) (l .loop .sum + byteAt b (l .loop .at + 2 + k .mask-bytes .result))
-next c =
-    let l = c .before in
-    let s = l .before .before .before .before in
-    rw (ap (λ e. e .length) (entry c), ap (λ e. e .memory) (entry c)) (passed-next (s .pre .0 .1) (l .loop .inv .0) (there c))
 
 fields : (c : tie.After-fields-at Inv-loop μ-loop) →
     let l = c .before .before in
@@ -75,14 +53,14 @@ mask-bytes-requires : tie.Need-mask-bytes-requires Inv-loop μ-loop
 mask-bytes-requires c κs = search needs
 
 loop-holds : tie.Need-loop-holds Inv-loop μ-loop
-loop-holds c = (passed-none _, upto-none _ _)
+loop-holds c = (passed-none _ _, upto-none _ _)
 
 fields-at-requires : tie.Need-fields-at-requires Inv-loop μ-loop
 fields-at-requires c κs =
     let l = c .before in
     let k = l .before in
     let s = k .before .before .before in
-    (s .pre .0 .0, (k .mask-bytes .ensures .1, k .mask-bytes .ensures .2, omega (arith, small c .0)))
+    (s .pre .0 .0, (k .mask-bytes .ensures .1, k .mask-bytes .ensures .2, passed-place (s .pre .0 .1) (l .loop .inv .0) (there c)))
 
 copy-chosen-requires : tie.Need-copy-chosen-requires Inv-loop μ-loop
 copy-chosen-requires c κs =
@@ -94,39 +72,20 @@ copy-chosen-requires c κs =
 add-number : tie.Need-add-number Inv-loop μ-loop
 add-number c = search needs
 
-add-byte-from : tie.Need-add-byte-from Inv-loop μ-loop
-add-byte-from c = record { fits = omega (arith, small (c .before .before .before .before .before) .0) }
-
-add-byte-from-2 : tie.Need-add-byte-from-2 Inv-loop μ-loop
-add-byte-from-2 c = let i = c .before .before .before .before .before in record { fits = omega (arith, small i .0, i .before .before .mask-bytes .ensures .2) }
-
-byte-from-requires : tie.Need-byte-from-requires Inv-loop μ-loop
-byte-from-requires c κs = search needs
-
-add-sum : tie.Need-add-sum Inv-loop μ-loop
-add-sum c = record { fits = omega (arith, small (c .before .before .before .before .before .before) .1, c .byte-from .ensures .0) }
-
-add-byte-from-3 : tie.Need-add-byte-from-3 Inv-loop μ-loop
-add-byte-from-3 c = record { fits = omega (arith, small (c .before .before .before .before .before .before) .0) }
-
-byte-from-requires-2 : tie.Need-byte-from-requires-2 Inv-loop μ-loop
-byte-from-requires-2 c κs = search needs
-
-add-at : tie.Need-add-at Inv-loop μ-loop
-add-at c = record { fits = omega (arith, small (c .before .before .before .before .before .before .before) .0, c .byte-from2 .ensures .0) }
+advance-requires : tie.Need-advance-requires Inv-loop μ-loop
+advance-requires c κs = search needs
 
 loop-less : tie.Need-loop-less Inv-loop μ-loop
 loop-less c = search needs
 
 loop-again : tie.Need-loop-again Inv-loop μ-loop
 loop-again c =
-    let m = c .before in
-    let k = m .before .before .before in
+    let k = c .before .before .before in
     let f = k .before .before in
     let l = f .before .before in
     let s = l .before .before .before .before in
     let g = s .args in (
-      rw (c .byte-from2 .ensures .0, m .byte-from .ensures .0) (next (f .before)),
+      rw (c .advance .ensures, l .before .mask-bytes .ensures .0) (passed-next (s .pre .0 .1) (l .loop .inv .0) (there (f .before))),
       entry-turn (s .pre .1 .0) (spread f) (λ n. fieldsOf (getD (rwEntries (g .chosen .count) (now (g .rw))) n nothing)) _ (fields f) (l .loop .inv .1) (k .copy-chosen .ensures),
     )
 
@@ -152,13 +111,7 @@ copy-all-spec =
     fields-at-requires
     copy-chosen-requires
     add-number
-    add-byte-from
-    add-byte-from-2
-    byte-from-requires
-    add-sum
-    add-byte-from-3
-    byte-from-requires-2
-    add-at
+    advance-requires
     loop-less
     loop-again
     same-length

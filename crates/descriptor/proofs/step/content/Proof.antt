@@ -10,7 +10,7 @@ use denote.Ref.{now}
 use borrow.Author.Tests.{lt-ltb, le-ltb}
 use Rattle.rules.specs.Parameter.{rowOf}
 use Rattle.rules.specs.declared.Decoded.{Decoded}
-use Rattle.rules.specs.Descriptor.{byteAt, stepOf, mediaSide, mayStand, refuse, contentChecks}
+use Rattle.rules.specs.Descriptor.{byteAt, entryAt, stepOf, mediaSide, mayStand, refuse, contentChecks}
 use Rattle.descriptor.specs.declared.step.Stepped.{Stepped}
 use Rattle.descriptor.specs.Steps.{steppedOf}
 use Rattle.descriptor.proofs.Chain.{pass, stop, side-is, memory-in, flags-in, step-in, media-is, needed-is, step-is}
@@ -18,51 +18,51 @@ use Rattle.descriptor.proofs.step.content.Statement.{statement}
 use Rattle.descriptor.proofs.step.content.Tie as tie
 
 -- what the functions that it calls answer, by document 01's table
-standing : (c : tie.After-stands) → let g = c .before .before .args in mayStand (rowOf (byteAt (now (g .s)) (g .st .at)) .side) (g .in-ro) ≡ c .stands .result
+standing : (c : tie.After-stands) → let g = c .before .before .args in mayStand (rowOf (byteAt (now (g .s)) (g .at)) .side) (g .in-ro) ≡ c .stands .result
 standing c = let b = c .before .before in sym (c .stands .ensures ∙ side-is (b .pre) (b .args .in-ro))
 
 media : (c : tie.After-media-at) →
     let g = c .before .before .before .before .before .before .before .before .args in
-    c .media-at .result ≡ mediaSide (rowOf (byteAt (now (g .s)) (g .st .at)) .parts) (byteAt (now (g .s)) (g .st .at + 3 + g .a))
+    c .media-at .result ≡ mediaSide (rowOf (byteAt (now (g .s)) (g .at)) .parts) (byteAt (now (g .s)) (g .at + 3 + g .a))
 media c =
     let b = c .before .before .before .before .before .before .before .before in
-    c .media-at .ensures ∙ media-is (b .pre) (byteAt (now (b .args .s)) (b .args .st .at + 3 + b .args .a))
+    c .media-at .ensures ∙ media-is (b .pre) (byteAt (now (b .args .s)) (b .args .at + 3 + b .args .a))
 
 -- what each check that was passed says
-three : (c : tie.Else1) → let g = c .before .before .before .args in not (mayStand (rowOf (byteAt (now (g .s)) (g .st .at)) .side) (g .in-ro)) ≡ false
+three : (c : tie.Else1) → let g = c .before .before .before .args in not (mayStand (rowOf (byteAt (now (g .s)) (g .at)) .side) (g .in-ro)) ≡ false
 three c = ap not (standing (c .before)) ∙ c .if1 .left
 
-four : (c : tie.Else2) → let g = c .before .before .before .before .before .args in ltb (byteAt (now (g .s)) (g .st .at + 2 + g .a)) (rowOf (byteAt (now (g .s)) (g .st .at)) .needed) ≡ false
+four : (c : tie.Else2) → let g = c .before .before .before .before .before .args in ltb (byteAt (now (g .s)) (g .at + 2 + g .a)) (rowOf (byteAt (now (g .s)) (g .at)) .needed) ≡ false
 four c = rw (← needed-is (c .before .before .before .before .before .pre)) (le-ltb _ _ (c .if2 .left))
 
-five : (c : tie.Else3) → let g = c .before .before .before .before .before .before .before .args in ltb 3 (stepOf (rowOf (byteAt (now (g .s)) (g .st .at)) .extras) (now (g .s)) (g .st .at + 4 + g .a)) ≡ false
+five : (c : tie.Else3) → let g = c .before .before .before .before .before .before .before .args in ltb 3 (stepOf (rowOf (byteAt (now (g .s)) (g .at)) .extras) (now (g .s)) (g .at + 4 + g .a)) ≡ false
 five c =
     let b = c .before .before .before .before .before .before .before in
-    rw (← step-is (b .pre) (b .args .st .at + 4 + b .args .a), ← c .before .step-in .ensures) (le-ltb _ _ (c .if3 .left))
+    rw (← step-is (b .pre) (b .args .at + 4 + b .args .a), ← c .before .step-in .ensures) (le-ltb _ _ (c .if3 .left))
 
 -- the byte at 2 + A
-memory-lt : (c : tie.After-shared-slice-known2) → let g = c .before .before .before .before .args in getD (now (g .s)) (g .st .at + 2 + g .a) 0 < 256
-memory-lt c = let g = c .before .before .before .before .args in c .shared-slice-known2 .given (g .st .at + 2 + g .a) .fits
+memory-lt : (c : tie.After-shared-slice-known2) → let g = c .before .before .before .before .args in getD (now (g .s)) (g .at + 2 + g .a) 0 < 256
+memory-lt c = let g = c .before .before .before .before .args in c .shared-slice-known2 .given (g .at + 2 + g .a) .fits
 
 -- the checks before 6
 past-five :
     (c : tie.After-shared-slice-known3) →
     let g = c .before .before .before .before .before .before .before .before .before .args in
     (r : Stepped) (d : Decoded)
-    → r ≡ steppedOf (g .st) d
-    → r ≡ steppedOf (g .st) (refuse (not (mayStand (rowOf (byteAt (now (g .s)) (g .st .at)) .side) (g .in-ro))) 3 (refuse (ltb (byteAt (now (g .s)) (g .st .at + 2 + g .a)) (rowOf (byteAt (now (g .s)) (g .st .at)) .needed)) 4 (refuse (ltb 3 (stepOf (rowOf (byteAt (now (g .s)) (g .st .at)) .extras) (now (g .s)) (g .st .at + 4 + g .a))) 5 d)))
+    → r ≡ steppedOf (g .at) (g .st) d
+    → r ≡ steppedOf (g .at) (g .st) (refuse (not (mayStand (rowOf (byteAt (now (g .s)) (g .at)) .side) (g .in-ro))) 3 (refuse (ltb (byteAt (now (g .s)) (g .at + 2 + g .a)) (rowOf (byteAt (now (g .s)) (g .at)) .needed)) 4 (refuse (ltb 3 (stepOf (rowOf (byteAt (now (g .s)) (g .at)) .extras) (now (g .s)) (g .at + 4 + g .a))) 5 d)))
 past-five c r d h =
     let e3 = c .before .before in
     let e2 = e3 .before .before in
     let e1 = e2 .before .before in
-    pass _ _ _ (three e1) (pass _ _ _ (four e2) (pass _ _ _ (five e3) h))
+    pass _ _ _ _ (three e1) (pass _ _ _ _ (four e2) (pass _ _ _ _ (five e3) h))
 
 stands-requires : tie.Need-stands-requires
 stands-requires c κs = search needs
 
 returns : tie.Need-returns
 unfolding contentChecks
-returns c = stop _ _ _ (ap not (standing (c .before)) ∙ c .if1 .taken)
+returns c = stop _ _ _ _ (ap not (standing (c .before)) ∙ c .if1 .taken)
 
 add-memory : tie.Need-add-memory
 add-memory c = search needs
@@ -83,7 +83,7 @@ returns-2 : tie.Need-returns-2
 unfolding contentChecks
 returns-2 c =
     let e = c .before .before in
-    pass _ _ _ (three e) (rw (← needed-is (e .before .before .before .pre)) (stop _ _ _ (lt-ltb _ _ (c .if2 .taken))))
+    pass _ _ _ _ (three e) (rw (← needed-is (e .before .before .before .pre)) (stop _ _ _ _ (lt-ltb _ _ (c .if2 .taken))))
 
 add-step-in : tie.Need-add-step-in
 add-step-in c = search needs
@@ -101,8 +101,8 @@ returns-3 c =
     let e2 = k .before in
     let e1 = e2 .before .before in
     let b = e1 .before .before .before in
-    pass _ _ _ (three e1) (pass _ _ _ (four e2)
-    (rw (← step-is (b .pre) (b .args .st .at + 4 + b .args .a), ← k .step-in .ensures) (stop _ _ _ (lt-ltb _ _ (c .if3 .taken)))))
+    pass _ _ _ _ (three e1) (pass _ _ _ _ (four e2)
+    (rw (← step-is (b .pre) (b .args .at + 4 + b .args .a), ← k .step-in .ensures) (stop _ _ _ _ (lt-ltb _ _ (c .if3 .taken)))))
 
 add-media-at : tie.Need-add-media-at
 add-media-at c = search needs
@@ -121,10 +121,10 @@ late-host-requires c κs = search needs
 
 returns-4 : tie.Need-returns-4
 unfolding contentChecks
-returns-4 c = let k = c .before in let y = k .before in past-five y _ _ (rw (← media (y .before)) (stop _ _ _ (sym (k .late-host .ensures) ∙ c .if4 .taken)))
+returns-4 c = let k = c .before in let y = k .before in past-five y _ _ (rw (← media (y .before)) (stop _ _ _ _ (sym (k .late-host .ensures) ∙ c .if4 .taken)))
 
-add-sum : tie.Need-add-sum
-add-sum c = omega (arith, memory-lt (c .before .before .before .before .before .before .before .before), c .before .before .before .before .before .before .before .before .before .before .before .before .pre .sum)
+add-if5 : tie.Need-add-if5
+add-if5 c = omega (arith, memory-lt (c .before .before .before .before .before .before .before .before), c .before .before .before .before .before .before .before .before .before .before .before .before .pre .sum)
 
 returns-5 : tie.Need-returns-5
 unfolding contentChecks
@@ -132,31 +132,35 @@ returns-5 c =
     let e4 = c .before .before in
     let y = e4 .before .before in
     let g = y .before .before .before .before .before .before .before .before .before .args in
-    past-five y _ _ (pass _ _ _ (rw (← media (y .before)) (sym (e4 .before .late-host .ensures) ∙ e4 .if4 .left)) (stop _ _ _ (lt-ltb 256 (g .st .sum + byteAt (now (g .s)) (g .st .at + 2 + g .a)) (omega (arith, c .if5 .taken)))))
+    past-five y _ _ (pass _ _ _ _ (rw (← media (y .before)) (sym (e4 .before .late-host .ensures) ∙ e4 .if4 .left)) (stop _ _ _ _ (lt-ltb 256 (g .st .sum + byteAt (now (g .s)) (g .at + 2 + g .a)) (omega (arith, c .if5 .taken)))))
 
 add-t14 : tie.Need-add-t14
 add-t14 c = search needs
 
-shared-slice-read-t17 : tie.Need-shared-slice-read-t17
-shared-slice-read-t17 c = let b = c .before .before .before .before .before .before .before .before .before .before .before .before .before .before in omega (arith, memory-in (b .pre))
+shared-slice-read-t16 : tie.Need-shared-slice-read-t16
+shared-slice-read-t16 c = let b = c .before .before .before .before .before .before .before .before .before .before .before .before .before .before in omega (arith, memory-in (b .pre))
 
-cast-t15 : tie.Need-cast-t15
-cast-t15 c = let g = c .before .before .before .before .before .before .before .before .before .before .before .before .before .before .args in omega (arith, c .shared-slice-known4 .given (g .st .at + 1) .fits)
+cast-t13 : tie.Need-cast-t13
+cast-t13 c = let g = c .before .before .before .before .before .before .before .before .before .before .before .before .before .before .args in omega (arith, c .shared-slice-known4 .given (g .at + 1) .fits)
 
-add-t21 : tie.Need-add-t21
-add-t21 c = let b = c .before .before .before .before .before .before .before .before .before .before .before .before .before .before in omega (arith, c .shared-slice-known4 .given (b .args .st .at + 1) .fits, b .pre .room, b .pre .short)
+add-t20 : tie.Need-add-t20
+add-t20 c = let b = c .before .before .before .before .before .before .before .before .before .before .before .before .before .before in omega (arith, c .shared-slice-known4 .given (b .args .at + 1) .fits, b .pre .room, b .pre .short)
 
-add-t22 : tie.Need-add-t22
-add-t22 c = search needs
+next-requires : tie.Need-next-requires
+next-requires c κs =
+    let e5 = c .before in
+    let b = e5 .before .before .before .before .before .before .before .before .before .before .before .before .before in
+    (b .pre .number, e5 .if5 .left)
 
 returns-6 : tie.Need-returns-6
 unfolding contentChecks
 returns-6 c =
-    let e5 = c .before .before .before in
+    let e5 = c .before .before in
     let e4 = e5 .before .before in
     let y = e4 .before .before in
     let g = y .before .before .before .before .before .before .before .before .before .args in
-    past-five y _ _ (pass _ _ _ (rw (← media (y .before)) (sym (e4 .before .late-host .ensures) ∙ e4 .if4 .left)) (pass _ _ _ (le-ltb 256 (g .st .sum + byteAt (now (g .s)) (g .st .at + 2 + g .a)) (omega (arith, e5 .if5 .left))) (rw (media (y .before)) refl)))
+    let after = c .next .ensures (entryAt (g .a) (now (g .s)) (g .at) (g .st .sum)) refl (sym (media (y .before))) in
+    past-five y _ _ (pass _ _ _ _ (rw (← media (y .before)) (sym (e4 .before .late-host .ensures) ∙ e4 .if4 .left)) (pass _ _ _ _ (le-ltb 256 (g .st .sum + byteAt (now (g .s)) (g .at + 2 + g .a)) (omega (arith, e5 .if5 .left))) (rw after refl)))
 
 pub content-spec : {M : Type 1} → statement M
 content-spec =
@@ -180,11 +184,11 @@ content-spec =
     shared-slice-read-late-host
     late-host-requires
     returns-4
-    add-sum
+    add-if5
     returns-5
     add-t14
-    shared-slice-read-t17
-    cast-t15
-    add-t21
-    add-t22
+    shared-slice-read-t16
+    cast-t13
+    add-t20
+    next-requires
     returns-6)

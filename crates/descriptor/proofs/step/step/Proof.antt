@@ -18,28 +18,28 @@ use Rattle.descriptor.proofs.step.step.Statement.{statement}
 use Rattle.descriptor.proofs.step.step.Tie as tie
 
 -- the bytes left are more than one
-more : (c : tie.Else1) → let g = c .before .before .args in eqb (length (now (g .s)) - g .st .at) 1 ≡ false
-more c = let g = c .before .before .args in ne-eqb (length (now (g .s)) - g .st .at) 1 (λ q. c .if1 .left (omega arith))
+more : (c : tie.Else1) → let g = c .before .before .args in eqb (length (now (g .s)) - g .at) 1 ≡ false
+more c = let g = c .before .before .args in ne-eqb (length (now (g .s)) - g .at) 1 (λ q. c .if1 .left (omega arith))
 
 -- 1 is passed
-one : (c : tie.Else2) → let g = c .before .before .before .before .args in overruns (length (now (g .s)) - g .st .at) (entryAt (g .a) (now (g .s)) (g .st)) ≡ false
+one : (c : tie.Else2) → let g = c .before .before .before .before .args in overruns (length (now (g .s)) - g .at) (entryAt (g .a) (now (g .s)) (g .at) (g .st .sum)) ≡ false
 one c =
     let g = c .before .before .before .before .args in
-    rw (more (c .before .before), le-ltb (length (now (g .s)) - g .st .at) (byteAt (now (g .s)) (g .st .at + 1)) (omega (arith, c .if2 .left))) refl
+    rw (more (c .before .before), le-ltb (length (now (g .s)) - g .at) (byteAt (now (g .s)) (g .at + 1)) (omega (arith, c .if2 .left))) refl
 
-length-lt : (c : tie.After-shared-slice-known2) → let g = c .before .before .before .args in getD (now (g .s)) (g .st .at + 1) 0 < 256
-length-lt c = let g = c .before .before .before .args in c .shared-slice-known2 .given (g .st .at + 1) .fits
+length-lt : (c : tie.After-shared-slice-known2) → let g = c .before .before .before .args in getD (now (g .s)) (g .at + 1) 0 < 256
+length-lt c = let g = c .before .before .before .args in c .shared-slice-known2 .given (g .at + 1) .fits
 
 -- the least Length of the row that was found
-least : (c : tie.After-row-of) → let g = c .before .before .before .before .before .before .args in leastIn (c .row-of .result) ≡ rowOf (byteAt (now (g .s)) (g .st .at)) .least
-least c = let g = c .before .before .before .before .before .before .args in ap (λ (n : ℕ). leastIn n) (c .row-of .ensures) ∙ row (byteAt (now (g .s)) (g .st .at)) .least
+least : (c : tie.After-row-of) → let g = c .before .before .before .before .before .before .args in leastIn (c .row-of .result) ≡ rowOf (byteAt (now (g .s)) (g .at)) .least
+least c = let g = c .before .before .before .before .before .before .args in ap (λ (n : ℕ). leastIn n) (c .row-of .ensures) ∙ row (byteAt (now (g .s)) (g .at)) .least
 
 add-if1 : tie.Need-add-if1
 add-if1 c = search needs
 
 returns : tie.Need-returns
 unfolding decodeAt lengthChecks
-returns c = let g = c .before .before .args in stop _ _ _ (rw (eq-eqb (length (now (g .s)) - g .st .at) 1 (omega (arith, c .if1 .taken))) refl)
+returns c = let g = c .before .before .args in stop _ _ _ _ (rw (eq-eqb (length (now (g .s)) - g .at) 1 (omega (arith, c .if1 .taken))) refl)
 
 add-length : tie.Need-add-length
 add-length c = search needs
@@ -57,7 +57,7 @@ returns-2 : tie.Need-returns-2
 unfolding decodeAt lengthChecks
 returns-2 c =
     let g = c .before .before .before .before .args in
-    stop _ _ _ (rw (more (c .before .before), lt-ltb (length (now (g .s)) - g .st .at) (byteAt (now (g .s)) (g .st .at + 1)) (omega (arith, c .if2 .taken))) refl)
+    stop _ _ _ _ (rw (more (c .before .before), lt-ltb (length (now (g .s)) - g .at) (byteAt (now (g .s)) (g .at + 1)) (omega (arith, c .if2 .taken))) refl)
 
 shared-slice-read-row-of : tie.Need-shared-slice-read-row-of
 shared-slice-read-row-of c = search needs
@@ -73,7 +73,7 @@ add-if3 c = search needs
 
 returns-3 : tie.Need-returns-3
 unfolding decodeAt lengthChecks
-returns-3 c = let k = c .before in pass _ _ _ (one (k .before .before)) (rw (← least k) (stop _ _ _ (lt-ltb _ _ (c .if3 .taken))))
+returns-3 c = let k = c .before in pass _ _ _ _ (one (k .before .before)) (rw (← least k) (stop _ _ _ _ (lt-ltb _ _ (c .if3 .taken))))
 
 content-requires : tie.Need-content-requires
 content-requires c κs =
@@ -83,7 +83,7 @@ content-requires c κs =
       row-is = k .row-of .ensures;
       mask-low = b .pre .mask-low;
       mask-top = b .pre .mask-top;
-      room = omega (arith, c .if3 .left, least k, row-least (byteAt (now (b .args .s)) (b .args .st .at)), k .before .before .if2 .left);
+      room = omega (arith, c .if3 .left, least k, row-least (byteAt (now (b .args .s)) (b .args .at)), k .before .before .if2 .left);
       short = b .pre .short;
       number = b .pre .number;
       sum = b .pre .sum;
@@ -91,7 +91,7 @@ content-requires c κs =
 
 returns-4 : tie.Need-returns-4
 unfolding decodeAt lengthChecks
-returns-4 c = let e = c .before in let k = e .before in pass _ _ _ (one (k .before .before)) (rw (← least k) (pass _ _ _ (le-ltb _ _ (e .if3 .left)) (c .content .ensures)))
+returns-4 c = let e = c .before in let k = e .before in pass _ _ _ _ (one (k .before .before)) (rw (← least k) (pass _ _ _ _ (le-ltb _ _ (e .if3 .left)) (c .content .ensures)))
 
 pub step-spec : {M : Type 1} → statement M
 step-spec =

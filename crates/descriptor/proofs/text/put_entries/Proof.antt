@@ -13,33 +13,33 @@ use Rattle.descriptor.proofs.text.put_entries.Statement.{statement}
 use Rattle.descriptor.proofs.text.put_entries.Tie as tie
 
 abbrev Inv-loop : tie.InvT-loop
-Inv-loop classes table in-ro a s out₀ at st₀ line₀ out st line = Writing in-ro a s st₀ at out₀ st line out
+Inv-loop classes table in-ro a s out₀ at from₀ st₀ line₀ out from st line = Writing in-ro a s st₀ at out₀ from st line out
 
 abbrev μ-loop : tie.MeasureT-loop
-μ-loop classes table in-ro a s out₀ at st₀ line₀ out st line = length s - st .at
+μ-loop classes table in-ro a s out₀ at from₀ st₀ line₀ out from st line = length s - from
 
 -- the entry that a turn goes past
 gone : (c : tie.After-known-told Inv-loop μ-loop) →
-    let l = c .before .before .before .before .before .before in
+    let l = c .before .before .before .before .before in
     let g = l .before .before .args in
-    Went (l .loop .st) (decodeAt (g .in-ro) (g .a) (now (g .s)) (l .loop .st)) (c .before .d .given .0 .0)
-gone c = went _ _ _ (sym (c .before .before .before .step .ensures) ∙ c .before .d .given .1)
+    Went (l .loop .from) (l .loop .st) (decodeAt (g .in-ro) (g .a) (now (g .s)) (l .loop .from) (l .loop .st)) (c .before .d .given .0 .0) (c .before .d .given .0 .1 .0)
+gone c = went _ _ _ _ _ (sym (c .before .before .before .step .ensures) ∙ c .before .d .given .1)
 
 loop-holds : tie.Need-loop-holds Inv-loop μ-loop
-loop-holds c = writing-begin _ _ _ _ _ _ (c .before .pre .0 .begins) (c .before .pre .0 .sum)
+loop-holds c = writing-begin _ _ _ _ _ _ (c .before .pre .0 .sum)
 
 step-requires : tie.Need-step-requires Inv-loop μ-loop
 step-requires c κs =
-    let l = c .before .before in
+    let l = c .before in
     let p = l .before .before .pre .0 in
     record {
       classes-is = p .classes-is;
       table-is = p .table-is;
       mask-low = p .mask-low;
       mask-top = p .mask-top;
-      inside = c .if1 .taken;
+      inside = c .loop-test .taken;
       short = p .short;
-      number = omega (arith, l .loop .inv .folded .counts, p .number, p .begins, p .short, c .if1 .taken);
+      number = omega (arith, l .loop .inv .folded .counts, p .number, p .short, c .loop-test .taken);
       sum = l .loop .inv .sum;
     }
 
@@ -53,21 +53,20 @@ returns : tie.Need-returns Inv-loop μ-loop
 returns c =
     let k = c .before .before in
     let t = k .before in
-    let l = t .before .before in
-    writing-stop (l .loop .inv) (t .if1 .taken) _ (failed-by _ _ _ (sym (k .step .ensures) ∙ c .enum-told .given .1))
+    writing-stop (t .before .loop .inv) (t .loop-test .taken) _ (failed-by _ _ _ _ (sym (k .step .ensures) ∙ c .enum-told .given .1))
 
 put-entry-requires : tie.Need-put-entry-requires Inv-loop μ-loop
 put-entry-requires c κs =
     let k = c .before in
     let t = k .before .before .before .before in
-    let l = t .before .before in
+    let l = t .before in
     let p = l .before .before .pre in
     let w = gone k in
-    let e : Passed _ _ _ (l .loop .st) (w .e) = decode-passed _ _ _ _ _ (w .decodes) in (
+    let e : Passed _ _ _ (l .loop .from) (l .loop .st) (w .e) = decode-passed _ _ _ _ _ _ (w .decodes) in (
       record {
         inside = omega (arith, e .within, e .long, p .0 .mask-low);
         short = p .0 .short;
-        number = omega (arith, l .loop .inv .folded .counts, p .0 .number, p .0 .begins, p .0 .short, t .if1 .taken);
+        number = omega (arith, l .loop .inv .folded .counts, p .0 .number, p .0 .short, t .loop-test .taken);
         sum = omega (arith, l .loop .inv .sum);
       },
       omega (arith, l .loop .inv .put .next, l .loop .inv .put .room, p .1, p .0 .mask-low, e .within, e .long),
@@ -78,19 +77,19 @@ loop-less c =
     let k = c .before .before in
     let t = k .before .before .before .before in
     let w = gone k in
-    let e : Passed _ _ _ (t .before .before .loop .st) (w .e) = decode-passed _ _ _ _ _ (w .decodes) in
-    rw (w .to) (omega (arith, e .long, t .if1 .taken))
+    let e : Passed _ _ _ (t .before .loop .from) (t .before .loop .st) (w .e) = decode-passed _ _ _ _ _ _ (w .decodes) in
+    rw (w .to) (omega (arith, e .long, t .loop-test .taken))
 
 loop-again : tie.Need-loop-again Inv-loop μ-loop
 loop-again c =
     let k = c .before .before in
     let t = k .before .before .before .before in
-    let l = t .before .before in
+    let l = t .before in
     let w = gone k in
-    rw (w .to) (writing-next (l .loop .inv) (t .if1 .taken) (l .before .before .pre .0 .mask-low) (w .e) (w .decodes) (c .put-entry .ensures))
+    writing-next (l .loop .inv) (t .loop-test .taken) (l .before .before .pre .0 .mask-low) w (c .put-entry .ensures)
 
 returns-2 : tie.Need-returns-2 Inv-loop μ-loop
-returns-2 c = writing-end (c .before .before .loop .inv) (c .if1 .left)
+returns-2 c = writing-end (c .before .loop .inv) (c .loop-test .left)
 
 pub put-entries-spec : {M : Type 1} → statement M
 put-entries-spec =

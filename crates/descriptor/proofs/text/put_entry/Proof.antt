@@ -13,10 +13,10 @@ shared-slice-read-put-spaced : tie.Need-shared-slice-read-put-spaced
 shared-slice-read-put-spaced c = search needs
 
 cast-put-spaced : tie.Need-cast-put-spaced
-cast-put-spaced c = omega (arith, c .shared-slice-known2 .given (c .before .before .before .before .before .args .st .at))
+cast-put-spaced c = omega (arith, c .shared-slice-known2 .given (c .before .before .before .before .before .args .from))
 
 put-spaced-requires : tie.Need-put-spaced-requires
-put-spaced-requires c κs = (omega (arith, c .shared-slice-known2 .given (c .before .before .before .before .before .args .st .at)), omega arith)
+put-spaced-requires c κs = (omega (arith, c .shared-slice-known2 .given (c .before .before .before .before .before .args .from)), omega arith)
 
 put-spaced-requires-2 : tie.Need-put-spaced-requires-2
 put-spaced-requires-2 c κs = search needs
@@ -33,12 +33,12 @@ shared-slice-read-put-spaced-2 c = search needs
 cast-put-spaced-2 : tie.Need-cast-put-spaced-2
 cast-put-spaced-2 c =
     let g = c .before .before .before .before .before .before .before .before .before .before .args in
-    omega (arith, c .shared-slice-known3 .given (g .st .at + 2 + g .a))
+    omega (arith, c .shared-slice-known3 .given (g .from + 2 + g .a))
 
 put-spaced-requires-3 : tie.Need-put-spaced-requires-3
 put-spaced-requires-3 c κs =
     let g = c .before .before .before .before .before .before .before .before .before .before .args in
-    (omega (arith, c .shared-slice-known3 .given (g .st .at + 2 + g .a)), omega arith)
+    (omega (arith, c .shared-slice-known3 .given (g .from + 2 + g .a)), omega arith)
 
 put-byte-requires : tie.Need-put-byte-requires
 put-byte-requires c κs = search needs

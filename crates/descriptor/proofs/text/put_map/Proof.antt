@@ -17,56 +17,62 @@ slice-aggregate-put-text c = search needs
 put-text-requires : tie.Need-put-text-requires
 put-text-requires c κs = search needs
 
+start-requires : tie.Need-start-requires
+start-requires c κs = search needs
+
 put-entries-requires : tie.Need-put-entries-requires
 put-entries-requires c κs =
-    let t = c .before .before .before in
+    let t = c .before .before .before .before in
     let k = t .before .before .before in
     let b = k .before .before .before in
     let z = sizes _ _ _ (b .pre) in (
-      record {
-        classes-is = refl;
-        table-is = refl;
-        mask-low = k .mask-bytes .ensures .1;
-        mask-top = k .mask-bytes .ensures .2;
-        begins = refl;
-        short = z .rw;
-        number = omega arith;
-        sum = omega arith;
-      },
+      rw (c .before .start .ensures)
+          (record {
+            classes-is = refl;
+            table-is = refl;
+            mask-low = k .mask-bytes .ensures .1;
+            mask-top = k .mask-bytes .ensures .2;
+            short = z .rw;
+            number = omega arith;
+            sum = omega arith;
+          }),
       omega (arith, t .put-text .ensures .next, z .rw),
     )
 
+into-ro-requires : tie.Need-into-ro-requires
+into-ro-requires c κs = search needs
+
 put-entries-requires-2 : tie.Need-put-entries-requires-2
 put-entries-requires-2 c κs =
-    let x = c .before .before .before .before in
-    let t = x .before .before .before .before in
+    let x = c .before .before .before .before .before in
+    let t = x .before .before .before .before .before in
     let k = t .before .before .before in
     let b = k .before .before .before in
-    let one = rw (k .mask-bytes .ensures .0) at (x .put-entries .ensures) in
+    let one = rw (k .mask-bytes .ensures .0, x .before .before .start .ensures) at (x .put-entries .ensures) in
     let z = sizes _ _ _ (b .pre) in
     let m = middle _ _ _ (b .pre) one in (
-      record {
-        classes-is = refl;
-        table-is = refl;
-        mask-low = k .mask-bytes .ensures .1;
-        mask-top = k .mask-bytes .ensures .2;
-        begins = refl;
-        short = z .ro;
-        number = omega (arith, m .number);
-        sum = m .sum;
-      },
+      rw (c .before .into-ro .ensures)
+          (record {
+            classes-is = refl;
+            table-is = refl;
+            mask-low = k .mask-bytes .ensures .1;
+            mask-top = k .mask-bytes .ensures .2;
+            short = z .ro;
+            number = omega (arith, m .number);
+            sum = m .sum;
+          }),
       omega (arith, t .put-text .ensures .next, x .put-entries .ensures .put .next, x .put-entries .ensures .put .room, z .rw, z .ro),
     )
 
 put-end-requires : tie.Need-put-end-requires
 put-end-requires c κs =
     let y = c .before .before in
-    let x = y .before .before .before .before .before in
-    let t = x .before .before .before .before in
+    let x = y .before .before .before .before .before .before in
+    let t = x .before .before .before .before .before in
     let k = t .before .before .before in
     let b = k .before .before .before in
-    let one = rw (k .mask-bytes .ensures .0) at (x .put-entries .ensures) in
-    let two = rw (k .mask-bytes .ensures .0) at (y .put-entries2 .ensures) in
+    let one = rw (k .mask-bytes .ensures .0, x .before .before .start .ensures) at (x .put-entries .ensures) in
+    let two = rw (k .mask-bytes .ensures .0, y .before .before .into-ro .ensures) at (y .put-entries2 .ensures) in
     let z = sizes _ _ _ (b .pre) in
     let staged = middle _ _ _ (b .pre) one .sum in
     let active = end-sum _ _ _ (b .pre) one two in (
@@ -82,12 +88,12 @@ size c = search needs
 returns : tie.Need-returns
 returns c =
     let y = c .before .before .before in
-    let x = y .before .before .before .before .before in
-    let t = x .before .before .before .before in
+    let x = y .before .before .before .before .before .before in
+    let t = x .before .before .before .before .before in
     let k = t .before .before .before in
     let b = k .before .before .before in
-    let one = rw (k .mask-bytes .ensures .0) at (x .put-entries .ensures) in
-    let two = rw (k .mask-bytes .ensures .0) at (y .put-entries2 .ensures) in
+    let one = rw (k .mask-bytes .ensures .0, x .before .before .start .ensures) at (x .put-entries .ensures) in
+    let two = rw (k .mask-bytes .ensures .0, y .before .before .into-ro .ensures) at (y .put-entries2 .ensures) in
     map-printed _ _ _ (b .pre) one two (size (t .before)) (t .put-text .ensures) (c .put-end .ensures)
 
 pub put-map-spec : {M : Type 1} → statement M
@@ -97,7 +103,9 @@ put-map-spec =
     mask-bytes-requires
     slice-aggregate-put-text
     put-text-requires
+    start-requires
     put-entries-requires
+    into-ro-requires
     put-entries-requires-2
     put-end-requires
     returns)

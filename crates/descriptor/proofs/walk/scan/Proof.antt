@@ -14,33 +14,33 @@ use Rattle.descriptor.proofs.walk.scan.Statement.{statement}
 use Rattle.descriptor.proofs.walk.scan.Tie as tie
 
 abbrev Inv-loop : tie.InvT-loop
-Inv-loop classes table in-ro a s number sum media st₀ st = Scanning in-ro a s st₀ st
+Inv-loop classes table in-ro a s from at₀ st₀ at st = Scanning in-ro a s at₀ st₀ at st
 
 abbrev μ-loop : tie.MeasureT-loop
-μ-loop classes table in-ro a s number sum media st₀ st = length s - st .at
+μ-loop classes table in-ro a s from at₀ st₀ at st = length s - at
 
 -- the entry that a turn goes past
 gone : (c : tie.After-known-told Inv-loop μ-loop) →
-    let l = c .before .before .before .before .before .before in
+    let l = c .before .before .before .before .before in
     let g = l .before .before .args in
-    Went (l .loop .st) (decodeAt (g .in-ro) (g .a) (now (g .s)) (l .loop .st)) (c .before .d .given .0 .0)
-gone c = went _ _ _ (sym (c .before .before .before .step .ensures) ∙ c .before .d .given .1)
+    Went (l .loop .at) (l .loop .st) (decodeAt (g .in-ro) (g .a) (now (g .s)) (l .loop .at) (l .loop .st)) (c .before .d .given .0 .0) (c .before .d .given .0 .1 .0)
+gone c = went _ _ _ _ _ (sym (c .before .before .before .step .ensures) ∙ c .before .d .given .1)
 
 loop-holds : tie.Need-loop-holds Inv-loop μ-loop
-loop-holds c = scan-begin _ _ _ _ (c .before .pre .sum)
+loop-holds c = scan-begin _ _ _ _ _ (c .before .pre .sum)
 
 step-requires : tie.Need-step-requires Inv-loop μ-loop
 step-requires c κs =
-    let l = c .before .before in
+    let l = c .before in
     let b = l .before .before in
     record {
       classes-is = b .pre .classes-is;
       table-is = b .pre .table-is;
       mask-low = b .pre .mask-low;
       mask-top = b .pre .mask-top;
-      inside = c .if1 .taken;
+      inside = c .loop-test .taken;
       short = b .pre .short;
-      number = omega (arith, l .loop .inv .folded .counts, b .pre .number, b .pre .short, c .if1 .taken);
+      number = omega (arith, l .loop .inv .folded .counts, b .pre .number, b .pre .short, c .loop-test .taken);
       sum = l .loop .inv .sum;
     }
 
@@ -58,28 +58,28 @@ unfolding walkOf
 returns c =
     let t = c .before in
     let k = t .before .before in
-    let l = k .before .before .before in
+    let l = k .before .before in
     let g = l .before .before .args in
-    let d = decodeAt (g .in-ro) (g .a) (now (g .s)) (l .loop .st) in
-    out (l .loop .inv .folded) (k .before .if1 .taken) _
-    (λ r. c .stopped .ensures ∙ halts (l .loop .st) d (k .step .result) _ r (k .step .ensures) (t .enum-told .given .1))
+    let d = decodeAt (g .in-ro) (g .a) (now (g .s)) (l .loop .at) (l .loop .st) in
+    out (l .loop .inv .folded) (k .before .loop-test .taken) _
+    (λ r. c .stopped .ensures ∙ halts (l .loop .at) (l .loop .st) d (k .step .result) _ r (k .step .ensures) (t .enum-told .given .1))
 
 loop-less : tie.Need-loop-less Inv-loop μ-loop
 loop-less c =
     let t = c .before .before .before .before in
     let w = gone c in
-    let p : Passed _ _ _ (t .before .before .loop .st) (w .e) = decode-passed _ _ _ _ _ (w .decodes) in
-    rw (w .to) (omega (arith, p .long, t .if1 .taken))
+    let p : Passed _ _ _ (t .before .loop .at) (t .before .loop .st) (w .e) = decode-passed _ _ _ _ _ _ (w .decodes) in
+    rw (w .to) (omega (arith, p .long, t .loop-test .taken))
 
 loop-again : tie.Need-loop-again Inv-loop μ-loop
 loop-again c =
     let t = c .before .before .before .before in
     let w = gone c in
-    rw (w .to) (scan-turn (t .before .before .loop .inv) (t .if1 .taken) (w .e) (w .decodes))
+    scan-turn (t .before .loop .inv) (t .loop-test .taken) w
 
 returns-2 : tie.Need-returns-2 Inv-loop μ-loop
 unfolding walkOf
-returns-2 c = done (c .before .before .loop .inv .folded) (c .if1 .left)
+returns-2 c = done (c .before .loop .inv .folded) (c .loop-test .left)
 
 pub scan-spec : {M : Type 1} → statement M
 scan-spec =
