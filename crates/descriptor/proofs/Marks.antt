@@ -22,7 +22,7 @@ use Rattle.rules.proofs.Walks.{Map-accepted, load-accepted, total-append}
 use Rattle.rules.proofs.Fills.{Filled, filled-nth, stands-start, rw-filled, ro-filled}
 use Rattle.rules.proofs.EntryHeads.{Head, filled-head, strings-short, lengths-next, total-next}
 use Rattle.descriptor.specs.declared.Mark.{Mark}
-use Rattle.descriptor.specs.Marks.{past, OnEntry, pastOr, markAfter, Passable}
+use Rattle.descriptor.specs.Marks.{OnEntry, pastOr, markAfter, Passable}
 
 -- where an entry stands
 abbrev pub markOf : Entry → Mark

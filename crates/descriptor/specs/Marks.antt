@@ -17,10 +17,11 @@ pub record OnEntry (a : ℕ) (s : List ℕ) (mark : Mark) : Type 0 where
   pub place : mark .at ≤ 120
   pub space : mark .sum ≤ 256
 
--- past the entry at a mark; a mark at which none can stand, or with no A of 1 or 2, stays
+-- the numbers that a pass over an accepted string meets
 abbrev pub inRange : ℕ → Mark → Bool
 inRange a mark = leb a 2 && (leb (mark .at) 120 && leb (mark .sum) 256)
 
+-- past the entry at a mark; a mark at which none can stand stays
 unfoldable pub pastOr : ℕ → List ℕ → Mark → Mark
 pastOr a s mark = cond (inRange a mark) (cond (ltb (mark .at + 2 + a) (length s)) (past a s mark) mark) mark
 

@@ -1,6 +1,6 @@
 -- The entries of accepted strings fill them: each begins directly after the one before, from the first byte to the last.
 -- `Filled` says it of a list from a place on, with the state at which each entry passes the checks.
-use mathlib.Core.Path.{_≡_, refl, ap, _∙_}
+use mathlib.Core.Path.{_≡_, refl, ap}
 use mathlib.Core.Bool.{Bool, true, false, cond}
 use mathlib.Core.List.{List, [], _∷_}
 use Prim.Native.Nat.{ℕ, zero, suc, _+_, _≤_, _<_}

@@ -70,6 +70,27 @@ module _ (ro : Bool) (a : ℕ) (s : List ℕ) where
   walk-ends at st e =
       (λ q. rw q at (by-fuel (length s) at st (omega arith)), λ h. sym (done (along (begin onward ended ro a s at st) (h .way)) (h .none)))
 
+  -- a walk taken up again where a way ends gives what it gives from the way's beginning
+  way-on :
+      {to : ℕ} {end : State} {to′ : ℕ} {end′ : State} {at : ℕ} {st : State}
+      → Way ro a s to end at st
+      → Way ro a s to′ end′ to end
+      → Way ro a s to′ end′ at st
+  way-on here v = v
+  way-on (past e l d w) v = past e l d (way-on w v)
+
+  pub walk-on : (to : ℕ) (end : State) (at : ℕ) (st : State) → Way ro a s to end at st → walkOf ro a s at st ≡ walkOf ro a s to end
+  walk-on to end at st w = go (walkOf ro a s to end) refl
+    where
+      go : (x : Walked) → walkOf ro a s to end ≡ x → walkOf ro a s at st ≡ x
+      go (ended e) q =
+          let r = walk-ends to end e .0 q in
+          walk-ends at st e .1 (record { at = r .at; way = way-on w (r .way); none = r .none })
+      go (stopped x) q =
+          let r = walk-stops to end x .0 q in
+          walk-stops at st x .1
+          (record { at = r .at; st = r .st; way = way-on w (r .way); left = r .left; number = r .number; fails = r .fails; says = r .says })
+
 -- both strings
 module _ (count : ℕ) (first last : List ℕ) (x : Refusal) where
   strings-stop :

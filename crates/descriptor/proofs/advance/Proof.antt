@@ -1,5 +1,4 @@
 -- `advance` meets its contract.
-use borrow.Author.Needs.{needs}
 use borrow.Author.Tests.{not-true, not-false, lt-ltb, le-ltb}
 use mathlib.Core.Path.{_≡_, refl}
 use mathlib.Core.Bool.{true}
