@@ -1,43 +1,45 @@
--- What the code's rows say of values is what document 01's table says, at every ID: one test, computed for each ID that the table
--- names and for the others; and what follows from it of accepted values.
+-- What a call needs of an entry says what it accepts: one test of the table's values, computed for each ID that the table names and
+-- for the others, and what follows from it.
 use mathlib.Core.Path.{_≡_, refl, sym, _∙_}
-use mathlib.Core.Bool.{Bool, true, false, _&&_, _||_, not, cond}
+use mathlib.Core.Bool.{Bool, true, false, _&&_, _||_, not, cond, Bool·beq}
 use mathlib.Core.List.{List, [], _∷_}
-use Prim.Native.Nat.{_/_, ℕ, suc, _-_, _^_, _≤_, _<_}
-use native.Mathlib.Nat.{div-eq-of-lt, mod-lt}
+use Prim.Native.Nat.{ℕ, _≤_, _<_}
 use native.Mathlib.Omega.{arith}
 use native.Mathlib.Decide.{decLt}
-use borrow.Author.Tests.{le-leb, lt-leb, le-ltb, lt-ltb}
 use lib.IntN.{ℤ, pos, negsuc}
-use lib.Pow.{pow-mono}
 use lib.Signed.{leZ}
 use lib.Bits.{bitAnd}
-use lib.Dec.{T, eqb, eqb→eq, ltb, leb, leb→le}
+use lib.Dec.{T, eqb, eqb→eq, ltb, lt→ltb, leb, leb→le}
+use borrow.Author.Tests.{le-leb, lt-leb, eq-eqb}
 use lib.ListN.{List·getD-eq-default}
 use Rattle.rules.specs.declared.Entry.{Entry}
-use Rattle.rules.specs.Numbers.{bitOf}
-use Rattle.rules.specs.Parameter.{Extras, none, codes, indexCodes, indexStep, Range, rows as tableRows, space, both, rowOf}
-use Rattle.rules.specs.Place.{widthOf, signedOf}
-use Rattle.rules.specs.Accept.{within, inCodes, accepts, fromBits}
-use Rattle.rules.proofs.Tests.{and₂, and₃, from-true, is-false, and-no}
+use Rattle.rules.specs.Numbers.{bitOf, sum}
+use Rattle.rules.specs.Parameter.{Position, absent, after, Range, rows as tableRows, space, both, rowOf}
+use Rattle.rules.specs.Place.{partsOf, widthOf, signedOf}
+use Rattle.rules.specs.Accept.{within, inMask, inCodes, accepts}
+use Rattle.rules.proofs.Tests.{and₂, is-true, from-true, and-no}
 use Rattle.rules.proofs.Ids.{below, below-at, every-id}
-use Rattle.descriptor.specs.Rows.{classes, rowNumber, valuesNumber, signedIn, codesIn}
-use Rattle.descriptor.specs.Find.{leastBy, mostBy, listedBy, listedOf, namedOf, acceptedBy}
-use Rattle.descriptor.proofs.TableRows.{row, extrasNumber}
+use Rattle.descriptor.specs.Find.{lowIn, highIn, codeMask, hasCodes, listedOf, namedOf, acceptedIn, acceptedBy}
+use Rattle.descriptor.proofs.TableRows.{same-test, only, only-then, eqZ, eqZ→eq}
 use Rattle.descriptor.proofs.Bits.{and-bit}
 
--- equal tests
-abbrev eqBool : Bool → Bool → Bool
-eqBool true b = b
-eqBool false b = not b
+-- values that are one range
+abbrev single : List Range → Bool
+single [] = false
+single (r ∷ []) = true
+single (r ∷ q ∷ l) = false
 
-eqBool→eq : (a b : Bool) → T (eqBool a b) → a ≡ b
-eqBool→eq true true h = refl
-eqBool→eq true false h = absurd h
-eqBool→eq false true h = absurd h
-eqBool→eq false false h = refl
+single-within : (l : List Range) (v : ℤ) → T (single l) → within l v ≡ (leZ (lowIn l) v && leZ v (highIn l))
+unfolding within
+single-within [] v h = absurd h
+single-within (r ∷ []) v h = or-no (leZ (r .low) v && leZ v (r .high))
+  where
+    or-no : (t : Bool) → (t || false) ≡ t
+    or-no true = refl
+    or-no false = refl
+single-within (r ∷ q ∷ l) v h = absurd h
 
--- ranges of codes, 0 to 15
+-- values that are codes, of 0 to 15
 abbrev inLow : ℤ → ℤ → Bool
 inLow (pos a) (pos b) = leb b 15
 inLow (pos a) (negsuc b) = false
@@ -60,199 +62,101 @@ within-out (r ∷ l) v h k =
     let (a, b) = and₂ (inLow (r .low) (r .high)) (low l) h in
     rw (between (r .low) (r .high) v a k) (within-out l v b k)
 
--- the one range of a field of 8 bits
-abbrev eqZ : ℤ → ℤ → Bool
-eqZ (pos a) (pos b) = eqb a b
-eqZ (pos a) (negsuc b) = false
-eqZ (negsuc a) (pos b) = false
-eqZ (negsuc a) (negsuc b) = eqb a b
+-- each has its bit
+abbrev bits : List Range → Bool
+bits l = below 16 (λ n. Bool·beq (within l (pos n)) (bitOf (codeMask l) n))
 
-eqZ→eq : (a b : ℤ) → T (eqZ a b) → a ≡ b
-eqZ→eq (pos a) (pos b) h = rw (eqb→eq a b h)
-eqZ→eq (pos a) (negsuc b) h = absurd h
-eqZ→eq (negsuc a) (pos b) h = absurd h
-eqZ→eq (negsuc a) (negsuc b) h = rw (eqb→eq a b h)
-
-abbrev one : ℤ → ℤ → List Range → Bool
-one a b [] = false
-one a b (r ∷ []) = eqZ (r .low) a && eqZ (r .high) b
-one a b (r ∷ q ∷ l) = false
-
-one-within : (a b : ℤ) (l : List Range) (v : ℤ) → T (one a b l) → within l v ≡ (leZ a v && leZ v b)
-unfolding within
-one-within a b [] v h = absurd h
-one-within a b (r ∷ []) v h =
-    let (x, y) = and₂ (eqZ (r .low) a) (eqZ (r .high) b) h in
-    rw (eqZ→eq (r .low) a x, eqZ→eq (r .high) b y) (or-no (leZ a v && leZ v b))
+codes-within : (l : List Range) (v : ℤ) → T (low l) → T (bits l) → within l v ≡ ((leZ (pos 0) v && leZ v (pos 15)) && inMask (codeMask l) v)
+unfolding inMask
+codes-within l (pos n) h b = go (decLt n 16)
   where
-    or-no : (t : Bool) → (t || false) ≡ t
-    or-no true = refl
-    or-no false = refl
-one-within a b (r ∷ q ∷ l) v h = absurd h
+    go : Dec (n < 16) → within l (pos n) ≡ ((leb 0 n && leb n 15) && bitOf (codeMask l) n)
+    go (yes u) = rw (le-leb 0 n (omega arith), le-leb n 15 (omega arith)) (same-test _ _ (below-at 16 (λ k. Bool·beq (within l (pos k)) (bitOf (codeMask l) k)) b n u))
+    go (no u) = within-out l (pos n) h (λ k q. let e : n ≡ k = cc in omega arith) ∙ rw (lt-leb n 15 (omega arith), and-no (leb 0 n)) refl
+codes-within l (negsuc n) h b = within-out l (negsuc n) h (λ k q. let o : _≡_ {A = ℕ} 0 1 = cc in absurd (omega arith))
 
-abbrev whole : Bool → List Range → Bool
-whole signed l = one (leastBy signed) (mostBy 8 signed) l
-
--- the test
-abbrev masked : Extras → Bool
-masked none = false
-masked codes = true
-masked indexCodes = true
-masked indexStep = false
-
-abbrev stepped : Extras → Bool
-stepped none = false
-stepped codes = false
-stepped indexCodes = false
-stepped indexStep = true
-
-abbrev test : ℕ → ℕ → Bool
-test id vals =
-    eqBool (signedIn vals) (rowOf id .signed)
-    && cond (eqb (rowOf id .width) 8)
-    (whole (rowOf id .signed) (rowOf id .values) && not (masked (rowOf id .extras)))
-    (not (rowOf id .signed)
-    && (not (stepped (rowOf id .extras))
-    && (low (rowOf id .values) && below 16 (λ n. eqBool (within (rowOf id .values) (pos n)) (bitOf (codesIn vals) n)))))
-
-tested : (id : ℕ) → T (test id (valuesNumber id))
-unfolding rowOf valuesNumber within
-tested =
-    every-id (λ id. test id (valuesNumber id)) tt
-    λ id l. rw (List·getD-eq-default classes 0 {n = id} l, List·getD-eq-default tableRows (space both) {n = id} l) tt
-
--- a mask of 16 bits has none above
-no-bit : (x n : ℕ) → x < 2 ^ 16 → 16 ≤ n → bitOf x n ≡ false
-no-bit x n h l = let q : x / 2 ^ n ≡ 0 = div-eq-of-lt (omega (arith, pow-mono l)) in rw q
-
-unmasked : (x : Extras) (mask : ℕ) (v : ℤ) → T (not (masked x)) → inCodes x mask v ≡ true
-unfolding inCodes
-unmasked none mask v h = refl
-unmasked codes mask v h = absurd h
-unmasked indexCodes mask v h = absurd h
-unmasked indexStep mask v h = refl
-
-and-yes : (t : Bool) → (t && true) ≡ t
-and-yes true = refl
-and-yes false = refl
-
-and-codes : (x y : ℕ) (v : ℤ) → (inCodes codes x v && inCodes codes y v) ≡ inCodes codes (bitAnd x y) v
-unfolding inCodes
-and-codes x y (pos n) = sym (and-bit x y n)
+and-codes : (x y : ℕ) (v : ℤ) → inMask (bitAnd x y) v ≡ (inMask x v && inMask y v)
+unfolding inMask
+and-codes x y (pos n) = and-bit x y n
 and-codes x y (negsuc n) = refl
 
--- in the column's numbers and, where there is a code mask, in it
-listed-in : (x : Extras) (all mask : ℕ) (v : ℤ) → T (not (stepped x))
-    → (inCodes codes all v && inCodes x mask v) ≡ inCodes codes (cond (eqb (extrasNumber x) 0) all (bitAnd all mask)) v
-unfolding inCodes
-listed-in none all mask v k = and-yes _
-listed-in codes all mask v k = and-codes all mask v
-listed-in indexCodes all mask (pos n) k = and-codes all mask (pos n)
-listed-in indexCodes all mask (negsuc n) k = refl
-listed-in indexStep all mask v k = absurd k
+-- the test: a signed number has 8 bits; accepted values are codes where there is a code mask, else one range
+abbrev coded : List Range → Bool
+coded l = (eqZ (lowIn l) (pos 0) && eqZ (highIn l) (pos 15)) && (low l && bits l)
+
+abbrev test : ℕ → Bool
+test id =
+    only (rowOf id .signed) (eqb (rowOf id .width) 8)
+    && cond (hasCodes (rowOf id .codesAt)) (coded (rowOf id .values)) (only (ltb 0 (rowOf id .parts)) (single (rowOf id .values)))
+
+tested : (id : ℕ) → T (test id)
+unfolding rowOf codeMask within sum
+tested = every-id test tt (λ id l. rw (List·getD-eq-default tableRows (space both) {n = id} l) tt)
 
 module _ (id : ℕ) where
-  parts-of-test :
-      T (eqBool (signedIn (valuesNumber id)) (rowOf id .signed))
-      × T (cond (eqb (rowOf id .width) 8)
-      (whole (rowOf id .signed) (rowOf id .values) && not (masked (rowOf id .extras)))
-      (not (rowOf id .signed)
-      && (not (stepped (rowOf id .extras))
-      && (low (rowOf id .values) && below 16 (λ n. eqBool (within (rowOf id .values) (pos n)) (bitOf (codesIn (valuesNumber id)) n))))))
-  parts-of-test = and₂ (eqBool (signedIn (valuesNumber id)) (rowOf id .signed)) _ (tested id)
+  pub signed-byte : rowOf id .signed ≡ true → rowOf id .width ≡ 8
+  signed-byte h = eqb→eq _ _ (only-then (rowOf id .signed) _ (and₂ (only (rowOf id .signed) (eqb (rowOf id .width) 8)) _ (tested id) .0) (from-true h))
 
-  pub values-signed : signedIn (valuesNumber id) ≡ rowOf id .signed
-  values-signed = eqBool→eq _ _ (parts-of-test .0)
+  values-tested : T (cond (hasCodes (rowOf id .codesAt)) (coded (rowOf id .values)) (only (ltb 0 (rowOf id .parts)) (single (rowOf id .values))))
+  values-tested = and₂ (only (rowOf id .signed) (eqb (rowOf id .width) 8)) _ (tested id) .1
 
-  -- a field of 8 bits
-  module _ (h : eqb (rowOf id .width) 8 ≡ true) where
-    eight : T (whole (rowOf id .signed) (rowOf id .values)) × T (not (masked (rowOf id .extras)))
-    eight = and₂ (whole (rowOf id .signed) (rowOf id .values)) _ (rw h at (parts-of-test .1))
+  pub record Coded : Type 0 where
+    pub low-is : lowIn (rowOf id .values) ≡ pos 0
+    pub high-is : highIn (rowOf id .values) ≡ pos 15
+    pub all-low : T (low (rowOf id .values))
+    pub all-bits : T (bits (rowOf id .values))
 
-    eight-accepts : (mask : ℕ) (v : ℤ)
-        → (within (rowOf id .values) v && inCodes (rowOf id .extras) mask v) ≡ (leZ (leastBy (rowOf id .signed)) v && leZ v (mostBy 8 (rowOf id .signed)))
-    eight-accepts mask v =
-        rw (unmasked (rowOf id .extras) mask v (eight .1))
-        (and-yes _ ∙ one-within (leastBy (rowOf id .signed)) (mostBy 8 (rowOf id .signed)) (rowOf id .values) v (eight .0))
+  pub coded-values : hasCodes (rowOf id .codesAt) ≡ true → Coded
+  coded-values h =
+      let l : List Range = rowOf id .values in
+      let (a, b) = and₂ (eqZ (lowIn l) (pos 0) && eqZ (highIn l) (pos 15)) (low l && bits l) (rw h at values-tested) in
+      let (c, d) = and₂ (eqZ (lowIn l) (pos 0)) (eqZ (highIn l) (pos 15)) a in
+      let (e, f) = and₂ (low l) (bits l) b in
+      record { low-is = eqZ→eq _ _ c; high-is = eqZ→eq _ _ d; all-low = e; all-bits = f }
 
-  -- a field of fewer bits
-  module _ (h : eqb (rowOf id .width) 8 ≡ false) where
-    few :
-        T (not (rowOf id .signed))
-        × T (not (stepped (rowOf id .extras)))
-        × T (low (rowOf id .values) && below 16 (λ n. eqBool (within (rowOf id .values) (pos n)) (bitOf (codesIn (valuesNumber id)) n)))
-    few = and₃ (not (rowOf id .signed)) (not (stepped (rowOf id .extras))) _ (rw h at (parts-of-test .1))
+  -- the table's values, as a range and codes
+  values-are :
+      0 < rowOf id .parts
+      → (mask : ℕ) (v : ℤ)
+      → acceptedIn (lowIn (rowOf id .values)) (highIn (rowOf id .values)) (hasCodes (rowOf id .codesAt)) (cond (hasCodes (rowOf id .codesAt)) (bitAnd (codeMask (rowOf id .values)) mask) 0) v
+      ≡ (within (rowOf id .values) v && inCodes (rowOf id .codesAt) mask v)
+  unfolding acceptedIn inCodes
+  values-are some mask v = go (hasCodes (rowOf id .codesAt)) refl
+    where
+      l : List Range
+      l = rowOf id .values
 
-    few-low : T (low (rowOf id .values)) × T (below 16 (λ n. eqBool (within (rowOf id .values) (pos n)) (bitOf (codesIn (valuesNumber id)) n)))
-    few-low = and₂ (low (rowOf id .values)) _ (few .2)
+      -- a position with codes asks the mask, one without doesn't
+      asks : (x : Position) (t : Bool) → hasCodes x ≡ t → inCodes x mask v ≡ (not t || inMask mask v)
+      asks absent true q = let o : _≡_ {A = ℕ} 0 1 = cc in absurd (omega arith)
+      asks absent false q = refl
+      asks (after n) true q = refl
+      asks (after n) false q = let o : _≡_ {A = ℕ} 0 1 = cc in absurd (omega arith)
 
-    pub few-unsigned : rowOf id .signed ≡ false
-    few-unsigned = is-false (rowOf id .signed) (few .0)
+      group : (a b c : Bool) → (a && (b && c)) ≡ ((a && b) && c)
+      group true b c = refl
+      group false b c = refl
 
-    few-out : (v : ℤ) → ((n : ℕ) → v ≡ pos n → 16 ≤ n) → within (rowOf id .values) v ≡ false
-    few-out v k = within-out (rowOf id .values) v (few-low .0) k
+      go : (t : Bool) → hasCodes (rowOf id .codesAt) ≡ t
+          → ((leZ (lowIn l) v && leZ v (highIn l)) && (not t || inMask (cond t (bitAnd (codeMask l) mask) 0) v))
+          ≡ (within l v && inCodes (rowOf id .codesAt) mask v)
+      go true q =
+          let c = coded-values q in
+          rw (c .low-is, c .high-is, and-codes (codeMask l) mask v, asks (rowOf id .codesAt) true q, codes-within l v (c .all-low) (c .all-bits))
+          (group (leZ (pos 0) v && leZ v (pos 15)) (inMask (codeMask l) v) (inMask mask v))
+      go false q =
+          let t = rw (q, is-true (ltb 0 (rowOf id .parts)) (lt→ltb _ _ some)) at values-tested in
+          rw (asks (rowOf id .codesAt) false q, single-within l v t) refl
 
-    few-within : (v : ℤ) → within (rowOf id .values) v ≡ inCodes codes (codesIn (valuesNumber id)) v
-    unfolding inCodes
-    few-within (pos n) = go (decLt n 16)
-      where
-        go : Dec (n < 16) → within (rowOf id .values) (pos n) ≡ bitOf (codesIn (valuesNumber id)) n
-        go (yes l) = eqBool→eq _ _ (below-at 16 (λ k. eqBool (within (rowOf id .values) (pos k)) (bitOf (codesIn (valuesNumber id)) k)) (few-low .1) n l)
-        go (no l) =
-            few-out (pos n) (λ k q. let e : n ≡ k = cc in omega arith)
-            ∙ sym (no-bit (codesIn (valuesNumber id)) n (mod-lt (valuesNumber id) (omega arith)) (omega arith))
-    few-within (negsuc n) = few-out (negsuc n) (λ k q. let o : _≡_ {A = ℕ} 0 1 = cc in absurd (omega arith))
+-- what a call needs of an entry with fields says what it accepts
+pub named-accepts : (inRO : Bool) (e : Entry) (v : ℤ) → 0 < partsOf e → acceptedBy (namedOf inRO e) v ≡ accepts e v
+unfolding namedOf accepts partsOf
+named-accepts inRO e v h = values-are (e .id) h (e .codes) v
 
-    few-accepts : (mask : ℕ) (v : ℤ) → (within (rowOf id .values) v && inCodes (rowOf id .extras) mask v) ≡ inCodes codes (listedBy (rowNumber id) (valuesNumber id) mask) v
-    unfolding listedBy
-    few-accepts mask v = rw (few-within v, row id .extras) (listed-in (rowOf id .extras) (codesIn (valuesNumber id)) mask v (few .1))
-
-    few-range : (v : ℤ) → (leZ (pos 0) v && leZ v (pos 15)) ≡ false → within (rowOf id .values) v ≡ false
-    few-range (pos n) k = few-out (pos n) (λ m q. go m q (decLt m 16))
-      where
-        go : (m : ℕ) → pos n ≡ pos m → Dec (m < 16) → 16 ≤ m
-        go m q (yes l) =
-            let e : n ≡ m = cc in
-            let z = rw (le-leb 0 n (omega arith), le-leb n 15 (omega arith)) at k in
-            let o : _≡_ {A = ℕ} 0 1 = cc in absurd (omega arith)
-        go m q (no l) = omega arith
-    few-range (negsuc n) k = few-out (negsuc n) (λ m q. let o : _≡_ {A = ℕ} 0 1 = cc in absurd (omega arith))
-
--- what a call needs of an entry says what it accepts
-pub named-accepts : (inRO : Bool) (e : Entry) (v : ℤ) → acceptedBy (namedOf inRO e) v ≡ accepts e v
-unfolding acceptedBy namedOf accepts widthOf signedOf
-named-accepts inRO e v = go (eqb (rowOf (e .id) .width) 8) refl
+-- a field that is not of 8 bits holds unsigned numbers
+pub few-unsigned : (id : ℕ) → eqb (rowOf id .width) 8 ≡ false → rowOf id .signed ≡ false
+few-unsigned id h = go (rowOf id .signed) refl
   where
-    few-case : eqb (rowOf (e .id) .width) 8 ≡ false → (t : Bool) → (leZ (pos 0) v && leZ v (pos 15)) ≡ t
-        → (t && inCodes codes (listedOf e) v) ≡ (within (rowOf (e .id) .values) v && inCodes (rowOf (e .id) .extras) (e .codes) v)
-    few-case q true k = sym (few-accepts (e .id) q (e .codes) v)
-    few-case q false k = sym (rw (few-range (e .id) q v k) refl)
-
-    go : (t : Bool) → eqb (rowOf (e .id) .width) 8 ≡ t
-        → ((leZ (leastBy (rowOf (e .id) .signed)) v && leZ v (cond t (cond (rowOf (e .id) .signed) (pos 127) (pos 255)) (pos 15)))
-        && (t || inCodes codes (listedOf e) v))
-        ≡ (within (rowOf (e .id) .values) v && inCodes (rowOf (e .id) .extras) (e .codes) v)
-    go true q = and-yes _ ∙ sym (eight-accepts (e .id) q (e .codes) v)
-    go false q = rw (few-unsigned (e .id) q) (few-case q (leZ (pos 0) v && leZ v (pos 15)) refl)
-
--- the bits of a field: any of 8, else those of an accepted code
-any-byte : (g : Bool) (n : ℕ) → n < 256 → (leZ (leastBy g) (fromBits g 8 n) && leZ (fromBits g 8 n) (mostBy 8 g)) ≡ true
-unfolding fromBits
-any-byte false n h = rw (le-leb n 255 (omega arith), le-leb 0 n (omega arith)) refl
-any-byte true n h = go (decLt n 128)
-  where
-    go : Dec (n < 128) → (leZ (negsuc 127) (cond (ltb n 128) (pos n) (negsuc (256 - suc n))) && leZ (cond (ltb n 128) (pos n) (negsuc (256 - suc n))) (pos 127)) ≡ true
-    go (yes l) = rw (lt-ltb n 128 l, le-leb n 127 (omega arith)) refl
-    go (no l) = rw (le-ltb n 128 (omega arith), le-leb (256 - suc n) 127 (omega arith)) refl
-
-pub bits-accepted : (e : Entry) (n : ℕ) → n < 2 ^ widthOf e → accepts e (fromBits (signedOf e) (widthOf e) n) ≡ (eqb (widthOf e) 8 || bitOf (listedOf e) n)
-unfolding accepts widthOf signedOf inCodes fromBits
-bits-accepted e n h = go (eqb (rowOf (e .id) .width) 8) refl
-  where
-    go : (t : Bool) → eqb (rowOf (e .id) .width) 8 ≡ t
-        → (within (rowOf (e .id) .values) (fromBits (rowOf (e .id) .signed) (rowOf (e .id) .width) n) && inCodes (rowOf (e .id) .extras) (e .codes) (fromBits (rowOf (e .id) .signed) (rowOf (e .id) .width) n))
-        ≡ (t || bitOf (listedOf e) n)
-    go true q =
-        let w : rowOf (e .id) .width ≡ 8 = eqb→eq _ _ (from-true q) in
-        eight-accepts (e .id) q (e .codes) _ ∙ rw w (any-byte (rowOf (e .id) .signed) n (rw w at h))
-    go false q = few-accepts (e .id) q (e .codes) _ ∙ rw (few-unsigned (e .id) q) refl
+    go : (t : Bool) → rowOf id .signed ≡ t → t ≡ false
+    go true q = let z : eqb (rowOf id .width) 8 ≡ true = eq-eqb _ 8 (signed-byte id q) in let o : _≡_ {A = ℕ} 0 1 = cc in absurd (omega arith)
+    go false q = refl

@@ -5,16 +5,18 @@ use mathlib.Core.Bool.{Bool, true, false}
 use mathlib.Core.List.{List}
 use Prim.Native.Nat.{ℕ, _+_, _<_}
 use native.Mathlib.Omega.{arith}
+use borrow.Author.Tests.{lt-ltb}
+use lib.Dec.{ltb}
 use lib.ListN.{length}
 use Rattle.rules.specs.declared.State.{State}
 use Rattle.rules.specs.declared.Decoded.{Decoded}
-use Rattle.rules.specs.Parameter.{rowOf, Side, RW, RO, both, Extras, none, codes, indexCodes, indexStep}
+use Rattle.rules.specs.Parameter.{rowOf, Side, RW, RO, both, Position, absent, after}
 use Rattle.rules.specs.Descriptor.{byteAt, stepOf, mediaSide, mayStand, refuse}
 use Rattle.descriptor.specs.declared.step.Stepped.{Stepped}
 use Rattle.descriptor.specs.declared.step.Stepped.the-variants.{Refused as stops}
-use Rattle.descriptor.specs.Rows.{sideIn, partsIn, neededIn, extrasIn}
+use Rattle.descriptor.specs.Rows.{cell}
 use Rattle.descriptor.specs.Steps.{steppedOf, stepBy, standsBy, Standing}
-use Rattle.descriptor.proofs.TableRows.{row, sideNumber, extrasNumber, Row}
+use Rattle.descriptor.proofs.TableRows.{row, sideNumber, placeNumber, Row}
 
 pub pass : (at : ℕ) (st : State) (n : ℕ) (d : Decoded) {b : Bool} {r : Stepped} → b ≡ false → r ≡ steppedOf at st d → r ≡ steppedOf at st (refuse b n d)
 unfolding refuse
@@ -33,38 +35,39 @@ stands RO false = refl
 stands both true = refl
 stands both false = refl
 
-pub step-by : (x : Extras) (s : List ℕ) (at : ℕ) → stepBy (extrasNumber x) s at ≡ stepOf x s at
+pub step-by : (x : Position) (s : List ℕ) (at a : ℕ) → stepBy (placeNumber x) s (at + a) ≡ stepOf x s (at + 4 + a)
 unfolding stepOf stepBy
-step-by none s at = refl
-step-by codes s at = refl
-step-by indexCodes s at = refl
-step-by indexStep s at = refl
+step-by absent s at a = refl
+step-by (after n) s at a = let q : at + a + (4 + n) ≡ at + 4 + a + n = omega arith in rw (lt-ltb 0 (4 + n) (omega arith), q) refl
 
-module _ {line a : ℕ} {s : List ℕ} {at : ℕ} {st : State} (g : Standing line a s at st) where
+module _ {table : List (List ℕ)} {class a : ℕ} {s : List ℕ} {at : ℕ} {st : State} (g : Standing table class a s at st) where
   abbrev id : ℕ
   id = byteAt s at
 
-  is : Row id line
-  is = rw (g .row-is) (row id)
+  is : Row id class
+  is = rw (g .class-is) (row id)
 
-  pub side-is : (ro : Bool) → standsBy (sideIn line) ro ≡ mayStand (rowOf id .side) ro
-  side-is ro = rw (is .side) (stands (rowOf id .side) ro)
+  pub side-is : (ro : Bool) → standsBy (cell table class 0) ro ≡ mayStand (rowOf id .side) ro
+  side-is ro = rw (g .table-is, is .side) (stands (rowOf id .side) ro)
 
   -- MemoryLength, PropertyFlags and step are in the string
   pub memory-in : at + 2 + a < length s
   memory-in = omega (arith, is .room, g .room)
 
-  pub flags-in : 0 < partsIn line → at + 3 + a < length s
-  flags-in l = omega (arith, is .flags l, g .room)
+  pub flags-in : 0 < cell table class 3 → at + 3 + a < length s
+  flags-in l = omega (arith, is .flags-room (rw (g .table-is) at l), g .room)
 
-  pub step-in : 2 < extrasIn line → at + 4 + a + 1 < length s
-  step-in l = omega (arith, is .step l, g .room)
+  pub step-in : 0 < cell table class 4 → at + a + cell table class 4 < length s
+  step-in l = rw (g .table-is) (omega (arith, is .step-room (rw (g .table-is) at l), g .room))
 
-  pub media-is : (flags : ℕ) → mediaSide (partsIn line) flags ≡ mediaSide (rowOf id .parts) flags
-  media-is flags = rw (is .parts) refl
+  pub media-is : (flags : ℕ) → mediaSide (ltb 0 (cell table class 3)) flags ≡ mediaSide (rowOf id .flags) flags
+  media-is flags = rw (g .table-is, is .flags) refl
 
-  pub needed-is : neededIn line ≡ rowOf id .needed
-  needed-is = is .needed
+  pub needed-small : cell table class 1 < 256
+  needed-small = rw (g .table-is) (is .needed-small)
 
-  pub step-is : (from : ℕ) → stepBy (extrasIn line) s from ≡ stepOf (rowOf id .extras) s from
-  step-is from = rw (is .extras) (step-by (rowOf id .extras) s from)
+  pub needed-is : cell table class 1 ≡ rowOf id .needed
+  needed-is = rw (g .table-is) (is .needed)
+
+  pub step-is : stepBy (cell table class 4) s (at + a) ≡ stepOf (rowOf id .stepAt) s (at + 4 + a)
+  step-is = rw (g .table-is, is .step) (step-by (rowOf id .stepAt) s at a)

@@ -11,9 +11,9 @@ use Rattle.rules.specs.declared.Entry.{Entry}
 use Rattle.rules.specs.declared.Refusal.{Refusal}
 use Rattle.rules.specs.declared.Loaded.{Loaded}
 use Rattle.rules.specs.declared.Loaded.the-variants.{Accepted as accepted, Refused as rejected}
-use Rattle.rules.specs.Descriptor.{maskBytes, byteAt}
+use Rattle.rules.specs.Descriptor.{maskBytes, byteAt, entryAt}
 use Rattle.rules.specs.Load.{Map, loadOf, total, mapOf}
-use Rattle.rules.specs.Place.{nothing, entry, isRW, heldBy, lengthOf}
+use Rattle.rules.specs.Place.{nothing, entry, partsOf, widthOf, isRW, heldBy, lengthOf}
 use Rattle.rules.specs.Demands.{Accepted}
 use Rattle.rules.proofs.Tests.{and-no, and₂, from-true}
 use Rattle.rules.proofs.Good.{Good, starts}
@@ -76,12 +76,13 @@ index-is from (e ∷ l) (suc n) k g h low top =
     rw (b, and-no (leb (e .offset) k)) (ap suc (index-is (from + e .memory) l n k (g .2) (omega arith) low top))
 
 -- an entry whose space covers byte k
-pub record Covering (count : ℕ) (rw ro : List ℕ) (k : ℕ) (inRO : Bool) (n id offset : ℕ) : Type 0 where
+pub record Covering (count : ℕ) (rw ro : List ℕ) (k : ℕ) (inRO : Bool) (n offset parts width : ℕ) : Type 0 where
   pub ok : Accepted count rw ro
   pub there : n < length (mapOf count rw ro .entries)
   pub side : not (isRW (mapOf count rw ro) n) ≡ inRO
-  pub id-is : entry (mapOf count rw ro) n .id ≡ id
   pub offset-is : entry (mapOf count rw ro) n .offset ≡ offset
+  pub parts-is : partsOf (entry (mapOf count rw ro) n) ≡ parts
+  pub width-is : widthOf (entry (mapOf count rw ro) n) ≡ width
   pub low : entry (mapOf count rw ro) n .offset ≤ k
   pub top : k < entry (mapOf count rw ro) n .offset + entry (mapOf count rw ro) n .memory
 
@@ -89,7 +90,7 @@ pub record Covering (count : ℕ) (rw ro : List ℕ) (k : ℕ) (inRO : Bool) (n 
 data Says (count : ℕ) (rw ro : List ℕ) (k : ℕ) : Covered → Type 0 where
   refused : (r : Refusal) → loadOf count rw ro ≡ rejected r → Says count rw ro k (notCovered r)
   none : Accepted count rw ro → ((s : ℕ) → lengthOf (mapOf count rw ro) s ≤ k) → Says count rw ro k noEntry
-  one : {inRO : Bool} {n id offset : ℕ} → Covering count rw ro k inRO n id offset → Says count rw ro k (by inRO n id offset)
+  one : {inRO : Bool} {n offset parts width : ℕ} → Covering count rw ro k inRO n offset parts width → Says count rw ro k (by inRO n offset parts width)
 
 module _ (count : ℕ) (first last : List ℕ) (k : ℕ) where
   abbrev m : Map
@@ -110,11 +111,11 @@ module _ (count : ℕ) (first last : List ℕ) (k : ℕ) where
       n : ℕ
       n = coverIndex (m .entries) k
 
-      go : (b : Bool) → ltb n (length (m .entries)) ≡ b → Says count first last k (cond b (by (not (isRW m n)) n (entry m n .id) (entry m n .offset)) noEntry)
+      go : (b : Bool) → ltb n (length (m .entries)) ≡ b → Says count first last k (cond b (by (not (isRW m n)) n (entry m n .offset) (partsOf (entry m n)) (widthOf (entry m n))) noEntry)
       go true q =
           let l : n < length (m .entries) = ltb-true n (length (m .entries)) q in
           let (x, y) = and₂ (leb (entry m n .offset) k) (ltb k (entry m n .offset + entry m n .memory)) (from-true (index-spans (m .entries) k l)) in
-          one (record { ok = ok; there = l; side = refl; id-is = refl; offset-is = refl; low = leb→le _ _ x; top = ltb→lt _ _ y })
+          one (record { ok = ok; there = l; side = refl; offset-is = refl; parts-is = refl; width-is = refl; low = leb→le _ _ x; top = ltb→lt _ _ y })
       go false q =
           let z = index-none 0 (m .entries) k (map-good count first last ok .list) (omega arith) (ltb-false n (length (m .entries)) q) in
           none ok (λ s. omega (arith, length-most count first last s))
@@ -142,10 +143,13 @@ module _ (count : ℕ) (first last : List ℕ) (k : ℕ) where
       go : Says count first last k noEntry → Accepted count first last × ((s : ℕ) → lengthOf (mapOf count first last) s ≤ k)
       go (none ok h) = (ok, h)
 
-  pub cover-one : (inRO : Bool) (n id offset : ℕ) → coverOf count first last k ≡ by inRO n id offset → Covering count first last k inRO n id offset
-  cover-one inRO n id offset q = go (rw q at (says count first last k))
+  pub cover-one :
+      (inRO : Bool) (n offset parts width : ℕ)
+      → coverOf count first last k ≡ by inRO n offset parts width
+      → Covering count first last k inRO n offset parts width
+  cover-one inRO n offset parts width q = go (rw q at (says count first last k))
     where
-      go : Says count first last k (by inRO n id offset) → Covering count first last k inRO n id offset
+      go : Says count first last k (by inRO n offset parts width) → Covering count first last k inRO n offset parts width
       go (one c) = c
 
 -- for `cover`: what the search of each string finds
@@ -164,18 +168,23 @@ module _ (count : ℕ) (first last : List ℕ) (k n c d t : ℕ) (h : loadOf cou
       → markOf (entry p e) ≡ record { at = i; sum = o }
       → o ≤ k
       → k < o + byteAt s (i + 2 + maskBytes count)
-      → (i < length s) × (by (not (isRW p e)) e (byteAt s i) o ≡ coverOf count first last k)
+      → (i ≤ length s)
+      × (by (not (isRW p e)) e (entryAt (maskBytes count) s i o .offset) (partsOf (entryAt (maskBytes count) s i o)) (widthOf (entryAt (maskBytes count) s i o)) ≡ coverOf count first last k)
   unfolding coverIn
   covers-at e {s} {i} {o} l w q low top =
       let a : entry p e .start ≡ i = ap (λ x. x .at) q in
       let b : entry p e .offset ≡ o = ap (λ x. x .sum) q in
-      let id : entry p e .id ≡ byteAt s (entry p e .start) = ap (λ x. x .id) (w .says) in
+      let is : entry p e ≡ entryAt (maskBytes count) s i o = w .says ∙ rw (a, b) refl in
       let memory : entry p e .memory ≡ byteAt s (entry p e .start + 2 + maskBytes count) = ap (λ x. x .memory) (w .says) in
       let y : k < entry p e .offset + entry p e .memory = rw (memory, a, b) top in
       let j : coverIndex (p .entries) k ≡ e = index-is 0 (p .entries) e k (map-good count first last ok .list) l (omega arith) y in (
         omega (arith, w .room),
-        rw (← a, ← b, ← id) (sym (rw (j, lt-ltb e (length (p .entries)) l) refl)) ∙ cover-accepted count first last k ok,
+        rw (← is, ← b) (sym (rw (j, lt-ltb e (length (p .entries)) l) refl)) ∙ cover-accepted count first last k ok,
       )
+
+  short : (b : Bool) → length (cond b last first) ≤ 120
+  short true = strings-short count first last ok .1
+  short false = strings-short count first last ok .0
 
   module _ (inRO : Bool) where
     pub covers-seeks : Passable (maskBytes count) (cond inRO last first) (cond inRO d 0) (cond inRO c n)
@@ -198,15 +207,15 @@ module _ (count : ℕ) (first last : List ℕ) (k n c d t : ℕ) (h : loadOf cou
     module _ {x : Hit} (f : Hits (maskBytes count) (cond inRO last first) (cond inRO d 0) (cond inRO c n) k x) where
       pub covers-found :
           x .number < cond inRO c n
-          → (x .at < length (cond inRO last first))
-          × (by inRO (cond inRO (n + x .number) (x .number)) (byteAt (cond inRO last first) (x .at)) (x .sum) ≡ coverOf count first last k)
+          → (x .at ≤ 120)
+          × (by inRO (cond inRO (n + x .number) (x .number)) (x .sum) (partsOf (entryAt (maskBytes count) (cond inRO last first) (x .at) (x .sum))) (widthOf (entryAt (maskBytes count) (cond inRO last first) (x .at) (x .sum))) ≡ coverOf count first last k)
           × (cond inRO (n + x .number) (x .number) ≤ 240)
       covers-found l =
           let (u, v) = in-string (x .number) l in
           let e = cond inRO (n + x .number) (x .number) in
           let q = sym (entry-stands count first last n c d t h inRO (x .number) l) ∙ f .is in
           let (y, w) = covers-at e u (entry-heads count first last n c d t h inRO (x .number) l) q (f .low) (f .top l) in
-          (y, rw v at w, omega (arith, few-entries count first last ok, strings-short count first last ok))
+          (omega (arith, short inRO), rw v at w, omega (arith, few-entries count first last ok, strings-short count first last ok))
 
       -- none: the byte lies past the spaces of the string
       pub covers-past : cond inRO c n ≤ x .number → cond inRO t d ≤ k
@@ -221,7 +230,7 @@ module _ (count : ℕ) (first last : List ℕ) (k n c d t : ℕ) (h : loadOf cou
   covers-none past = go (ltb (coverIndex (p .entries) k) (length (p .entries))) refl ∙ cover-accepted count first last k ok
     where
       go : (b : Bool) → ltb (coverIndex (p .entries) k) (length (p .entries)) ≡ b
-          → noEntry ≡ cond b (by (not (isRW p (coverIndex (p .entries) k))) (coverIndex (p .entries) k) (entry p (coverIndex (p .entries) k) .id) (entry p (coverIndex (p .entries) k) .offset)) noEntry
+          → noEntry ≡ cond b (by (not (isRW p (coverIndex (p .entries) k))) (coverIndex (p .entries) k) (entry p (coverIndex (p .entries) k) .offset) (partsOf (entry p (coverIndex (p .entries) k))) (widthOf (entry p (coverIndex (p .entries) k)))) noEntry
       go true q =
           let i = coverIndex (p .entries) k in
           let u : i < length (p .entries) = ltb-true i (length (p .entries)) q in

@@ -19,7 +19,7 @@ use Rattle.descriptor.specs.declared.Located.the-variants.{At as at, Ref
 use Rattle.descriptor.specs.declared.Named.{Named}
 use Rattle.descriptor.specs.declared.Found.the-variants.{In as isIn, Refused as notFound}
 use Rattle.descriptor.specs.Locate.{located, locatedOf}
-use Rattle.descriptor.specs.Find.{mostBy, namedOf, InMap, found, toldOrder, foundOf}
+use Rattle.descriptor.specs.Find.{namedOf, InMap, found, toldOrder, foundOf}
 
 -- what is found of it
 module _ (count : ℕ) (first last : List ℕ) {e : ℕ} {f : Named} (z : InMap count first last e f) where
@@ -43,9 +43,9 @@ module _ (count : ℕ) (first last : List ℕ) {e : ℕ} {f : Named} (z : InMap 
   unfolding namedOf
   width-is = ap (λ (x : Named). x .width) (sym (z .is))
 
-  pub most-is : f .most ≡ mostBy (widthOf (entry (mapOf count first last) e)) (signedOf (entry (mapOf count first last) e))
+  pub signed-is : f .signed ≡ signedOf (entry (mapOf count first last) e)
   unfolding namedOf
-  most-is = ap (λ (x : Named). x .most) (sym (z .is))
+  signed-is = ap (λ (x : Named). x .signed) (sym (z .is))
 
   pub step-is : f .step ≡ entry (mapOf count first last) e .step
   unfolding namedOf

@@ -1,71 +1,110 @@
--- The wide reading of an entry: what is read by the code's rows is what is read by document 01's table.
-use mathlib.Core.Path.{_≡_, refl, sym, _∙_}
-use mathlib.Core.Bool.{Bool, true, false, _&&_, cond}
+-- The reading of an entry: what is read by the code's rows is what document 01's table says of it.
+use mathlib.Core.Path.{_≡_, refl}
+use mathlib.Core.Bool.{Bool, true, cond}
 use mathlib.Core.List.{List}
-use Prim.Native.Nat.{ℕ, _+_, _≤_}
+use Prim.Native.Nat.{ℕ, zero, suc, _+_, _<_}
 use native.Mathlib.Omega.{arith}
-use borrow.Author.Tests.{ltb-false}
-use lib.Dec.{ltb, eqb}
-use lib.ListN.{length, List·getD-eq-default}
-use Rattle.rules.specs.Parameter.{rowOf, Extras, none, codes, indexCodes, indexStep}
-use Rattle.rules.specs.Descriptor.{byteAt, highFirst, codesOf, entryAt}
+use borrow.Author.Tests.{lt-ltb}
+use lib.Bits.{bitAnd}
+use lib.IntN.{ℤ, pos, _-ℤ_}
+use lib.Dec.{T, ltb, eqb}
+use lib.ListN.{getD}
+use mir.Syntax.{w64}
+use mir.Val.{SFits}
+use Rattle.rules.specs.Parameter.{rowOf, Position, absent, after}
+use Rattle.rules.specs.Descriptor.{byteAt, codesOf, entryAt}
 use Rattle.rules.specs.Place.{partsOf, widthOf, signedOf}
-use Rattle.rules.proofs.Checks.{high-two}
 use Rattle.descriptor.specs.declared.Named.{Named}
-use Rattle.descriptor.specs.Rows.{rowNumber, valuesNumber, extrasIn, partsIn, widthIn, signedIn}
+use Rattle.descriptor.specs.Rows.{rows, fields, listed, classOf, cell}
 use Rattle.descriptor.specs.Steps.{stepBy}
 use Rattle.descriptor.specs.Wide.{codesBy}
-use Rattle.descriptor.specs.Find.{leastBy, mostBy, listedBy, namedOf}
-use Rattle.descriptor.proofs.TableRows.{row, extrasNumber}
-use Rattle.descriptor.proofs.Accepts.{values-signed}
+use Rattle.descriptor.specs.Find.{codeMask, hasCodes, namedOf}
+use Rattle.descriptor.proofs.TableRows.{placeNumber, row, line}
 use Rattle.descriptor.proofs.Chain.{step-by}
 
-pub codes-by : (x : Extras) (s : List ℕ) (at : ℕ) → codesBy (extrasNumber x) s at ≡ codesOf x s at
-unfolding codesBy codesOf
-codes-by none s at = refl
-codes-by codes s at = refl
-codes-by indexCodes s at = refl
-codes-by indexStep s at = refl
+-- whether an ID has a code mask, by the mask's place
+pub place-codes : (x : Position) → ltb 0 (placeNumber x) ≡ hasCodes x
+place-codes absent = refl
+place-codes (after n) = rw (lt-ltb 0 (4 + n) (omega arith)) refl
 
--- the code mask, read by the row's column
-pub row-codes : (id : ℕ) (s : List ℕ) (at : ℕ) → codesBy (extrasIn (rowNumber id)) s at ≡ codesOf (rowOf id .extras) s at
-row-codes id s at = rw (row id .extras) (codes-by (rowOf id .extras) s at)
+-- the accepted codes by it
+codes-by :
+    (x : Position) (all mask : ℕ) (s : List ℕ) (at a : ℕ)
+    → (T (hasCodes x) → all ≡ mask)
+    → codesBy (placeNumber x) all s (at + a) ≡ cond (hasCodes x) (bitAnd mask (codesOf x s (at + 4 + a))) 0
+unfolding codesBy codesOf
+codes-by absent all mask s at a h = refl
+codes-by (after n) all mask s at a h =
+    let q : at + a + (4 + n) ≡ at + 4 + a + n = omega arith in
+    rw (lt-ltb 0 (4 + n) (omega arith), q, h tt) refl
+
+-- a byte below 0
+pub below-fits : (n : ℕ) → n < 256 → SFits w64 (pos 0 -ℤ pos n)
+below-fits zero h = record { sfits = omega arith }
+below-fits (suc n) h = rw (lt-ltb 0 (suc n) (omega arith)) (record { sfits = omega arith })
 
 -- what a call needs of an entry
 pub named-entry :
     (inRO : Bool) (a : ℕ) (s : List ℕ) (start offset : ℕ)
-    → _≡_ {A = Named}
+    → let c = classOf (byteAt s start) in
+    _≡_ {A = Named}
     (record {
       ro = inRO;
       id = byteAt s start;
       offset = offset;
-      parts = partsIn (rowNumber (byteAt s start));
-      width = widthIn (rowNumber (byteAt s start));
-      least = leastBy (signedIn (valuesNumber (byteAt s start)));
-      most = mostBy (widthIn (rowNumber (byteAt s start))) (signedIn (valuesNumber (byteAt s start)));
-      listed = listedBy (rowNumber (byteAt s start)) (valuesNumber (byteAt s start)) (codesBy (extrasIn (rowNumber (byteAt s start))) s (start + 4 + a));
-      step = stepBy (extrasIn (rowNumber (byteAt s start))) s (start + 4 + a);
+      parts = cell fields c 0;
+      width = cell fields c 1;
+      signed = eqb (cell fields c 2) 1;
+      low = pos 0 -ℤ pos (cell fields c 3);
+      high = pos (cell fields c 4);
+      coded = ltb 0 (cell fields c 5);
+      codes = codesBy (cell fields c 5) (getD listed c 0) s (start + a);
+      step = stepBy (cell rows c 4) s (start + a);
     })
     (namedOf inRO (entryAt a s start offset))
 unfolding namedOf partsOf widthOf signedOf
 named-entry inRO a s start offset =
+    let id : ℕ = byteAt s start in
     rw (
-      row-codes (byteAt s start) s (start + 4 + a),
-      row (byteAt s start) .extras,
-      row (byteAt s start) .parts,
-      row (byteAt s start) .width,
-      values-signed (byteAt s start),
-      step-by (rowOf (byteAt s start) .extras) s (start + 4 + a),
+      line id .parts,
+      line id .width,
+      line id .signed,
+      line id .low,
+      line id .high,
+      line id .codes,
+      row id .step,
+      place-codes (rowOf id .codesAt),
+      codes-by (rowOf id .codesAt) (getD listed (classOf id) 0) (codeMask (rowOf id .values)) s start a (line id .listed-is),
+      step-by (rowOf id .stepAt) s start a,
     )
     refl
 
--- no code mask, or none left in the string
-pub codes-none : (extras : ℕ) (s : List ℕ) (at : ℕ) → eqb extras 1 ≡ false → (eqb extras 2 && ltb at (length s)) ≡ false → 0 ≡ codesBy extras s at
-unfolding codesBy
-codes-none extras s at h k = rw h (go (eqb extras 2) k)
-  where
-    go : (t : Bool) → (t && ltb at (length s)) ≡ false → 0 ≡ cond t (highFirst s (at + 1) 2) 0
-    go true q =
-        let l : length s ≤ at = ltb-false at (length s) q in
-        sym (high-two s (at + 1) ∙ rw (List·getD-eq-default s 0 {n = at + 1} (omega arith), List·getD-eq-default s 0 {n = at + 1 + 1} (omega arith)) refl)
-    go false q = refl
+-- the same from lent rows, and from numbers that are those of the rows
+pub named-read :
+    (inRO : Bool) (a : ℕ) (s : List ℕ) (start offset id c : ℕ) (rt ft : List (List ℕ)) (lt : List ℕ) (low high : ℤ) (codes step : ℕ)
+    → id ≡ byteAt s start
+    → c ≡ classOf id
+    → rt ≡ rows
+    → ft ≡ fields
+    → lt ≡ listed
+    → low ≡ pos 0 -ℤ pos (cell ft c 3)
+    → high ≡ pos (cell ft c 4)
+    → codes ≡ codesBy (cell ft c 5) (getD lt c 0) s (start + a)
+    → step ≡ stepBy (cell rt c 4) s (start + a)
+    → _≡_ {A = Named}
+    (record {
+      ro = inRO;
+      id = id;
+      offset = offset;
+      parts = cell ft c 0;
+      width = cell ft c 1;
+      signed = eqb (cell ft c 2) 1;
+      low = low;
+      high = high;
+      coded = ltb 0 (cell ft c 5);
+      codes = codes;
+      step = step;
+    })
+    (namedOf inRO (entryAt a s start offset))
+named-read inRO a s start offset id c rt ft lt low high codes step e₁ e₂ e₃ e₄ e₅ e₆ e₇ e₈ e₉ =
+    rw (e₆, e₇, e₈, e₉, e₃, e₄, e₅, e₂, e₁) (named-entry inRO a s start offset)

@@ -8,7 +8,7 @@ use lib.Dec.{ltb, leb}
 use Rattle.rules.specs.declared.Entry.{Entry}
 use Rattle.rules.specs.Descriptor.{byteAt}
 use Rattle.rules.specs.Load.{Map, mapOf}
-use Rattle.rules.specs.Place.{entry, isRW}
+use Rattle.rules.specs.Place.{entry, isRW, partsOf, widthOf}
 use Rattle.rules.specs.Refuse.{Verdict, passes, refuses, orderOf}
 use Rattle.descriptor.specs.declared.Covered.{Covered}
 use Rattle.descriptor.specs.declared.Covered.the-variants.{By as by, Nothing as noEntry, Refused as notCovered}
@@ -24,9 +24,9 @@ unfoldable pub coverIndex : List Entry → ℕ → ℕ
 coverIndex [] k = 0
 coverIndex (e ∷ l) k = cond (spans e k) 0 (suc (coverIndex l k))
 
--- the entry of an index, with its string, number, ID and offset
+-- the entry of an index, with its string and number, and where its fields lie
 abbrev pub coveredBy : Map → ℕ → Covered
-coveredBy m n = cond (ltb n (length (m .entries))) (by (not (isRW m n)) n (entry m n .id) (entry m n .offset)) noEntry
+coveredBy m n = cond (ltb n (length (m .entries))) (by (not (isRW m n)) n (entry m n .offset) (partsOf (entry m n)) (widthOf (entry m n))) noEntry
 
 unfoldable pub coverIn : Map → ℕ → Covered
 coverIn m k = coveredBy m (coverIndex (m .entries) k)

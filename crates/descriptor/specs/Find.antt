@@ -1,40 +1,47 @@
--- What a call needs of the entry that it names, refused as a call that is told of its bank is; and what the table says of an ID.
+-- What a call needs of the entry that it names, refused as a call that is told of its bank is.
 use mathlib.Core.Path.{_≡_}
-use mathlib.Core.Bool.{Bool, _&&_, _||_, not, cond}
+use mathlib.Core.Bool.{Bool, true, false, _&&_, _||_, not, cond}
 use mathlib.Core.List.{List, [], _∷_}
-use Prim.Native.Nat.{ℕ, _<_}
+use Prim.Native.Nat.{ℕ, _^_, _<_}
 use lib.Bits.{bitAnd}
-use lib.IntN.{ℤ, pos, negsuc}
+use lib.IntN.{ℤ, pos}
 use lib.Signed.{leZ}
 use lib.ListN.{length}
-use lib.Dec.{ltb, eqb}
+use lib.Dec.{ltb}
 use Rattle.rules.specs.declared.Entry.{Entry}
 use Rattle.rules.specs.declared.Refusal.the-variants.{Plain as plain}
-use Rattle.rules.specs.Parameter.{codes, rowOf}
+use Rattle.rules.specs.Numbers.{sum}
+use Rattle.rules.specs.Parameter.{Position, absent, after, Range, rowOf}
 use Rattle.rules.specs.Load.{mapOf}
 use Rattle.rules.specs.Place.{entry, isRW, partsOf, widthOf, signedOf}
-use Rattle.rules.specs.Accept.{inCodes}
+use Rattle.rules.specs.Accept.{within, inMask}
 use Rattle.rules.specs.Refuse.{Verdict, passes, refuses, refuseIf, firstOf, check9, check1to7}
 use Rattle.rules.specs.Demands.{Accepted}
 use Rattle.descriptor.specs.declared.Found.{Found}
 use Rattle.descriptor.specs.declared.Found.the-variants.{In as isIn, Refused as notFound}
 use Rattle.descriptor.specs.declared.Named.{Named}
-use Rattle.descriptor.specs.declared.Shape.{Shape}
-use Rattle.descriptor.specs.Rows.{rowNumber, valuesNumber, extrasIn, partsIn, widthIn, codesIn}
 
--- the bounds of a value before codes are asked
-abbrev pub leastBy : Bool → ℤ
-leastBy signed = cond signed (negsuc 127) (pos 0)
+-- the accepted numbers lie from the first range's beginning to the last one's end
+abbrev pub lowIn : List Range → ℤ
+lowIn [] = pos 0
+lowIn (r ∷ l) = r .low
 
-abbrev pub mostBy : ℕ → Bool → ℤ
-mostBy width signed = cond (eqb width 8) (cond signed (pos 127) (pos 255)) (pos 15)
+abbrev pub highIn : List Range → ℤ
+highIn [] = pos 0
+highIn (r ∷ []) = r .high
+highIn (r ∷ q ∷ l) = highIn (q ∷ l)
 
--- the codes that the rows of an ID accept, given an entry's code mask
-unfoldable pub listedBy : ℕ → ℕ → ℕ → ℕ
-listedBy row values mask = cond (eqb (extrasIn row) 0) (codesIn values) (bitAnd (codesIn values) mask)
+-- those of 0 to 15, a bit for each
+unfoldable pub codeMask : List Range → ℕ
+codeMask l = sum 16 λ n. cond (within l (pos n)) (2 ^ n) 0
 
+abbrev pub hasCodes : Position → Bool
+hasCodes absent = false
+hasCodes (after n) = true
+
+-- the accepted codes of an entry with a code mask: those of its ID that are in it
 abbrev pub listedOf : Entry → ℕ
-listedOf e = listedBy (rowNumber (e .id)) (valuesNumber (e .id)) (e .codes)
+listedOf e = cond (hasCodes (rowOf (e .id) .codesAt)) (bitAnd (codeMask (rowOf (e .id) .values)) (e .codes)) 0
 
 -- what a call needs of an entry
 unfoldable pub namedOf : Bool → Entry → Named
@@ -45,9 +52,11 @@ namedOf inRO e =
       offset = e .offset;
       parts = partsOf e;
       width = widthOf e;
-      least = leastBy (signedOf e);
-      most = mostBy (widthOf e) (signedOf e);
-      listed = listedOf e;
+      signed = signedOf e;
+      low = lowIn (rowOf (e .id) .values);
+      high = highIn (rowOf (e .id) .values);
+      coded = hasCodes (rowOf (e .id) .codesAt);
+      codes = listedOf e;
       step = e .step;
     }
 
@@ -57,9 +66,12 @@ pub record InMap (count : ℕ) (rw ro : List ℕ) (e : ℕ) (f : Named) : Type 0
   pub there : e < length (mapOf count rw ro .entries)
   pub is : namedOf (not (isRW (mapOf count rw ro) e)) (entry (mapOf count rw ro) e) ≡ f
 
--- the values that its fields accept
-unfoldable pub acceptedBy : Named → ℤ → Bool
-acceptedBy f v = (leZ (f .least) v && leZ v (f .most)) && (eqb (f .width) 8 || inCodes codes (f .listed) v)
+-- the values that its fields accept: from low to high and, where there is a code mask, those with a bit in the codes
+unfoldable pub acceptedIn : ℤ → ℤ → Bool → ℕ → ℤ → Bool
+acceptedIn low high coded codes v = (leZ low v && leZ v high) && (not coded || inMask codes v)
+
+abbrev pub acceptedBy : Named → ℤ → Bool
+acceptedBy f v = acceptedIn (f .low) (f .high) (f .coded) (f .codes) v
 
 abbrev pub found : Verdict → Found → Found
 found passes x = x
@@ -74,10 +86,3 @@ foundOf count rw ro short e =
     found
     (toldOrder count rw ro short (refuseIf (not (ltb e (length (mapOf count rw ro .entries)))) (plain 10) ∷ []))
     (isIn (namedOf (not (isRW (mapOf count rw ro) e)) (entry (mapOf count rw ro) e)))
-
--- parts and bits a lane, by a row and by an ID
-abbrev pub shapeIn : ℕ → Shape
-shapeIn row = record { parts = partsIn row; width = widthIn row }
-
-abbrev pub shapeOf : ℕ → Shape
-shapeOf id = record { parts = rowOf id .parts; width = rowOf id .width }

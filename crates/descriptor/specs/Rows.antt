@@ -1,55 +1,56 @@
--- The constant rows as lists, and their columns.
+-- The constant rows as lists, and their cells.
 use mathlib.Core.Path.{_≡_}
-use mathlib.Core.Bool.{Bool}
 use mathlib.Core.List.{List, [], _∷_}
-use Prim.Native.Nat.{ℕ, _/_, _%_}
+use Prim.Native.Nat.{ℕ}
 use lib.ListN.{getD}
-use lib.Dec.{eqb}
 
 abbrev pub classes : List ℕ
 classes = 0 ∷ 1 ∷ 2 ∷ 3 ∷ 4 ∷ 2 ∷ 2 ∷ 5 ∷ 6 ∷ 1 ∷ 1 ∷ 1 ∷ 1 ∷ 1 ∷ 1 ∷ 7 ∷ 7 ∷ 8 ∷ 9 ∷ []
 
-abbrev pub rows : List ℕ
+-- what the checks read: side, bytes needed, least Length, PropertyFlags read, place of the step
+abbrev pub rows : List (List ℕ)
 rows =
-    0x03000003 ∷ 0x01000003 ∷ 0x01110104 ∷ 0x01120204 ∷ 0x11140406 ∷ 0x21240807 ∷ 0x11140406 ∷ 0x01180804 ∷ 0x02281004 ∷ 0x32180806 ∷ []
+    (3 ∷ 0 ∷ 3 ∷ 0 ∷ 0 ∷ [])
+    ∷ (1 ∷ 0 ∷ 3 ∷ 0 ∷ 0 ∷ [])
+    ∷ (1 ∷ 1 ∷ 4 ∷ 1 ∷ 0 ∷ [])
+    ∷ (1 ∷ 2 ∷ 4 ∷ 1 ∷ 0 ∷ [])
+    ∷ (1 ∷ 4 ∷ 6 ∷ 1 ∷ 0 ∷ [])
+    ∷ (1 ∷ 8 ∷ 7 ∷ 1 ∷ 0 ∷ [])
+    ∷ (1 ∷ 4 ∷ 6 ∷ 1 ∷ 0 ∷ [])
+    ∷ (1 ∷ 8 ∷ 4 ∷ 1 ∷ 0 ∷ [])
+    ∷ (2 ∷ 16 ∷ 4 ∷ 1 ∷ 0 ∷ [])
+    ∷ (2 ∷ 8 ∷ 6 ∷ 1 ∷ 5 ∷ [])
+    ∷ []
 
-abbrev pub values : List ℕ
-values = 0x00000 ∷ 0x00000 ∷ 0x00003 ∷ 0x00007 ∷ 0x0FFFF ∷ 0x0F8FF ∷ 0x0800F ∷ 0x00000 ∷ 0x10000 ∷ 0x10000 ∷ []
+-- what fields are: parts, bits a lane, signed, accepted from so far below 0 up to a number, place of the code mask
+abbrev pub fields : List (List ℕ)
+fields =
+    (0 ∷ 0 ∷ 0 ∷ 0 ∷ 0 ∷ 0 ∷ [])
+    ∷ (0 ∷ 0 ∷ 0 ∷ 0 ∷ 0 ∷ 0 ∷ [])
+    ∷ (1 ∷ 1 ∷ 0 ∷ 0 ∷ 1 ∷ 0 ∷ [])
+    ∷ (1 ∷ 2 ∷ 0 ∷ 0 ∷ 2 ∷ 0 ∷ [])
+    ∷ (1 ∷ 4 ∷ 0 ∷ 0 ∷ 15 ∷ 4 ∷ [])
+    ∷ (2 ∷ 4 ∷ 0 ∷ 0 ∷ 15 ∷ 5 ∷ [])
+    ∷ (1 ∷ 4 ∷ 0 ∷ 0 ∷ 15 ∷ 4 ∷ [])
+    ∷ (1 ∷ 8 ∷ 0 ∷ 0 ∷ 255 ∷ 0 ∷ [])
+    ∷ (2 ∷ 8 ∷ 1 ∷ 128 ∷ 127 ∷ 0 ∷ [])
+    ∷ (1 ∷ 8 ∷ 1 ∷ 128 ∷ 127 ∷ 0 ∷ [])
+    ∷ []
+
+abbrev pub listed : List ℕ
+listed = 0 ∷ 0 ∷ 0 ∷ 0 ∷ 0xFFFF ∷ 0xF8FF ∷ 0x800F ∷ 0 ∷ 0 ∷ 0 ∷ []
 
 -- lent constants
-pub record Tables (x y z : List ℕ) : Type 0 where
+pub record Tables (x : List ℕ) (y z : List (List ℕ)) (w : List ℕ) : Type 0 where
   pub classes-are : x ≡ classes
   pub rows-are : y ≡ rows
-  pub values-are : z ≡ values
+  pub fields-are : z ≡ fields
+  pub listed-are : w ≡ listed
 
--- the code's rows of an ID
-unfoldable pub rowNumber : ℕ → ℕ
-rowNumber id = getD rows (getD classes id 0) 0
+-- the class of an ID
+unfoldable pub classOf : ℕ → ℕ
+classOf id = getD classes id 0
 
-unfoldable pub valuesNumber : ℕ → ℕ
-valuesNumber id = getD values (getD classes id 0) 0
-
--- its columns
-abbrev pub extrasIn : ℕ → ℕ
-extrasIn row = row / 0x10000000
-
-abbrev pub sideIn : ℕ → ℕ
-sideIn row = row / 0x1000000 % 16
-
-abbrev pub partsIn : ℕ → ℕ
-partsIn row = row / 0x100000 % 16
-
-abbrev pub widthIn : ℕ → ℕ
-widthIn row = row / 0x10000 % 16
-
-abbrev pub neededIn : ℕ → ℕ
-neededIn row = row / 0x100 % 256
-
-abbrev pub leastIn : ℕ → ℕ
-leastIn row = row % 256
-
-abbrev pub signedIn : ℕ → Bool
-signedIn values = eqb (values / 0x10000) 1
-
-abbrev pub codesIn : ℕ → ℕ
-codesIn values = values % 0x10000
+-- a cell of a class's line
+abbrev pub cell : List (List ℕ) → ℕ → ℕ → ℕ
+cell t class column = getD (getD t class []) column 0

@@ -12,16 +12,16 @@ use Rattle.rules.specs.Descriptor.{byteAt}
 use Rattle.rules.specs.Load.{next}
 use Rattle.descriptor.specs.declared.step.Stepped.{Stepped}
 use Rattle.descriptor.specs.declared.step.Stepped.the-variants.{Past as past, Refused as stops}
-use Rattle.descriptor.specs.Rows.{classes, rows, rowNumber, leastIn}
+use Rattle.descriptor.specs.Rows.{classes, rows, classOf, cell}
 
 -- what a walk makes of a decode
 abbrev pub steppedOf : ℕ → State → Decoded → Stepped
 steppedOf at st (decoded e) = past (at + e .length) (next st e)
 steppedOf at st (failed n) = stops n
 
--- the step byte by the number of the extras
+-- the step byte by its place
 unfoldable pub stepBy : ℕ → List ℕ → ℕ → ℕ
-stepBy extras s at = cond (ltb 2 extras) (byteAt s (at + 1)) 0
+stepBy place s from = cond (ltb 0 place) (byteAt s (from + place)) 0
 
 -- whether an ID may stand in a string, by the number of its side
 abbrev pub standsBy : ℕ → Bool → Bool
@@ -33,7 +33,7 @@ abbrev pub lateBy : ℕ → Bool → Bool → Bool
 lateBy id media passed = leb 2 id && (leb id 8 && (not media && passed))
 
 -- a place of a string at which a step is made
-pub record Walking (table rowTable : List ℕ) (a : ℕ) (s : List ℕ) (at : ℕ) (st : State) : Type 0 where
+pub record Walking (table : List ℕ) (rowTable : List (List ℕ)) (a : ℕ) (s : List ℕ) (at : ℕ) (st : State) : Type 0 where
   pub classes-is : table ≡ classes
   pub table-is : rowTable ≡ rows
   pub mask-low : 1 ≤ a
@@ -43,12 +43,14 @@ pub record Walking (table rowTable : List ℕ) (a : ℕ) (s : List ℕ) (at : �
   pub number : st .number ≤ 1000
   pub sum : st .sum ≤ 256
 
--- the same past 1 and 2, with the row of the entry's ID
-pub record Standing (row a : ℕ) (s : List ℕ) (at : ℕ) (st : State) : Type 0 where
-  pub row-is : row ≡ rowNumber (byteAt s at)
+-- the same past 1 and 2, with the class of the entry's ID
+pub record Standing (rowTable : List (List ℕ)) (class a : ℕ) (s : List ℕ) (at : ℕ) (st : State) : Type 0 where
+  pub table-is : rowTable ≡ rows
+  pub class-is : class ≡ classOf (byteAt s at)
+  pub class-top : class < 10
   pub mask-low : 1 ≤ a
   pub mask-top : a ≤ 2
-  pub room : at + leastIn row + a ≤ length s
+  pub room : at + cell rows class 2 + a ≤ length s
   pub short : length s ≤ 120
   pub number : st .number ≤ 1000
   pub sum : st .sum ≤ 256

@@ -17,7 +17,7 @@ stoppedOf (past at st) n = stopped (atEntry 0 n)
 stoppedOf (stops k) n = stopped (atEntry k n)
 
 -- a walk that can begin
-pub record Ready (table rowTable : List ℕ) (a : ℕ) (s : List ℕ) (st : State) : Type 0 where
+pub record Ready (table : List ℕ) (rowTable : List (List ℕ)) (a : ℕ) (s : List ℕ) (st : State) : Type 0 where
   pub classes-is : table ≡ classes
   pub table-is : rowTable ≡ rows
   pub mask-low : 1 ≤ a

@@ -1,9 +1,10 @@
--- The wide reading of one entry: its code mask by the number of its extras.
+-- The accepted codes of one entry, by the place of its code mask and the codes of its ID.
 use mathlib.Core.Bool.{cond}
 use mathlib.Core.List.{List}
 use Prim.Native.Nat.{ℕ, _+_}
-use lib.Dec.{eqb}
+use lib.Bits.{bitAnd}
+use lib.Dec.{ltb}
 use Rattle.rules.specs.Descriptor.{highFirst}
 
-unfoldable pub codesBy : ℕ → List ℕ → ℕ → ℕ
-codesBy extras s at = cond (eqb extras 1) (highFirst s at 2) (cond (eqb extras 2) (highFirst s (at + 1) 2) 0)
+unfoldable pub codesBy : ℕ → ℕ → List ℕ → ℕ → ℕ
+codesBy place listed s from = cond (ltb 0 place) (bitAnd listed (highFirst s (from + place) 2)) 0

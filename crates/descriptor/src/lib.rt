@@ -9,11 +9,9 @@ ghost use Rattle.rules.specs.Load.{sized, loadOf};
 ghost use Rattle.rules.specs.MapProgram.{mapOutput};
 ghost use Rattle.rules.specs.Beside.{entryAnswer, entryBytes};
 ghost use Rattle.descriptor.specs.Locate.{locatedOf};
-ghost use Rattle.descriptor.specs.Find.{foundOf, shapeIn, shapeOf, listedBy};
+ghost use Rattle.descriptor.specs.Find.{foundOf};
 ghost use Rattle.descriptor.specs.Cover.{coverOf};
 ghost use Rattle.descriptor.specs.Marks.{pastOr};
-ghost use Rattle.descriptor.specs.Rows.{extrasIn};
-ghost use Rattle.descriptor.specs.Wide.{codesBy};
 
 pub mod table; // document 01's table: constant rows by ID class
 mod rows; // the row of an ID
@@ -25,7 +23,7 @@ mod search; // an entry by its number, and by a byte of its space
 mod text; // the map program's text
 
 use crate::reading::named_at;
-use crate::rows::row_of;
+use crate::rows::class_of;
 use crate::search::look;
 use crate::search::past;
 use crate::search::seek;
@@ -33,8 +31,10 @@ use crate::state::into_ro;
 use crate::state::start;
 use crate::step::byte_at;
 use crate::table::CLASSES;
+use crate::table::FIELDS;
+use crate::table::LEAST;
+use crate::table::LISTED;
 use crate::table::ROWS;
-use crate::table::VALUES;
 use crate::text::put_refused;
 use crate::text::put_strings;
 use crate::walk::in_limits;
@@ -91,12 +91,12 @@ pub fn load(count: usize, rw: &[u8], ro: &[u8]) -> Loaded
     }
     let a = mask_bytes(count);
     let classes = CLASSES;
-    let table = ROWS;
-    let first = scan(&classes, &table, false, a, rw, 0, start());
+    let rows = ROWS;
+    let first = scan(&classes, &rows, false, a, rw, 0, start());
     let Walked::Ended(m) = first else {
         return refused(first);
     };
-    let last = scan(&classes, &table, true, a, ro, 0, into_ro(m));
+    let last = scan(&classes, &rows, true, a, ro, 0, into_ro(m));
     let Walked::Ended(e) = last else {
         return refused(last);
     };
@@ -183,17 +183,20 @@ pub fn entry_bytes<'a>(count: usize, rw: &'a [u8], ro: &'a [u8], entry: usize) -
     &rw[start..end]
 }
 
-// What a call needs of the entry that it names: whether it stands in the RO string, its ID, where its fields lie, the bounds of
-// a value before codes are asked, the codes that fields of fewer bits than 8 accept, a bit for each, and the step.
+// What a call needs of the entry that it names: whether it stands in the RO string, its ID, where its fields lie, whether their
+// numbers are signed, the accepted numbers, from low to high and, where there is a code mask, those with a bit in `codes`, and the
+// step.
 pub struct Named {
     pub ro: bool,
     pub id: usize,
     pub offset: usize,
     pub parts: usize,
     pub width: usize,
-    pub least: i64,
-    pub most: i64,
-    pub listed: usize,
+    pub signed: bool,
+    pub low: i64,
+    pub high: i64,
+    pub coded: bool,
+    pub codes: usize,
     pub step: usize,
 }
 
@@ -225,49 +228,46 @@ pub fn find(count: usize, rw: &[u8], ro: &[u8], short: bool, entry: usize) -> Fo
             let a = mask_bytes(count);
             let classes = CLASSES;
             let rows = ROWS;
-            let values = VALUES;
+            let fields = FIELDS;
+            let listed = LISTED;
             if in_ro {
-                return Found::In(named_at(&classes, &rows, &values, true, a, ro, start, offset));
+                let f = named_at(
+                    &classes,
+                    &rows,
+                    &fields,
+                    &listed,
+                    true,
+                    a,
+                    ro,
+                    start,
+                    offset,
+                );
+                return Found::In(f);
             }
-            Found::In(named_at(&classes, &rows, &values, false, a, rw, start, offset))
+            let f = named_at(
+                &classes,
+                &rows,
+                &fields,
+                &listed,
+                false,
+                a,
+                rw,
+                start,
+                offset,
+            );
+            Found::In(f)
         }
     }
 }
 
-// What the table says of an ID's fields: its parts and its bits a lane.
-pub struct Shape {
-    pub parts: usize,
-    pub width: usize,
-}
-
-// By a row.
-pub fn shape_in(row: u32) -> Shape
-    ensures { λ r. ⌜ (r ≡ shapeIn row) × (r .parts < 16) × (r .width < 16) ⌝ }
-{
-    Shape {
-        parts: (row / 0x100000 % 16) as usize,
-        width: (row / 0x10000 % 16) as usize,
-    }
-}
-
-pub fn shape_of(id: usize) -> Shape
-    ensures { λ r. ⌜ (r ≡ shapeOf id) × (r .parts < 16) × (r .width < 16) ⌝ }
-{
-    if id < 256 {
-        let classes = CLASSES;
-        let table = ROWS;
-        return shape_in(row_of(&classes, &table, id as u8));
-    }
-    Shape { parts: 0, width: 0 }
-}
-
-// The entry whose space covers a byte of a set, with the string that it stands in.
+// The entry whose space covers a byte of a set: the string that it stands in, its number, and where its fields lie.
 pub enum Covered {
     By {
         ro: bool,
         number: usize,
-        id: usize,
         offset: usize,
+        parts: usize,
+        width: usize,
     },
     Nothing,
     Refused(Refusal),
@@ -287,24 +287,50 @@ pub fn cover(count: usize, rw: &[u8], ro: &[u8], offset: usize) -> Covered
             active_length: _,
         } => {
             let a = mask_bytes(count);
+            let classes = CLASSES;
+            let rows = ROWS;
+            let fields = FIELDS;
+            let listed = LISTED;
             let first = look(a, rw, 0, rw_count, offset);
             if first.number < rw_count {
-                let at = first.at;
+                let f = named_at(
+                    &classes,
+                    &rows,
+                    &fields,
+                    &listed,
+                    false,
+                    a,
+                    rw,
+                    first.at,
+                    first.sum,
+                );
                 return Covered::By {
                     ro: false,
                     number: first.number,
-                    id: rw[at] as usize,
-                    offset: first.sum,
+                    offset: f.offset,
+                    parts: f.parts,
+                    width: f.width,
                 };
             }
             let last = look(a, ro, staged_length, ro_count, offset);
             if last.number < ro_count {
-                let at = last.at;
+                let f = named_at(
+                    &classes,
+                    &rows,
+                    &fields,
+                    &listed,
+                    true,
+                    a,
+                    ro,
+                    last.at,
+                    last.sum,
+                );
                 return Covered::By {
                     ro: true,
                     number: rw_count + last.number,
-                    id: ro[at] as usize,
-                    offset: last.sum,
+                    offset: f.offset,
+                    parts: f.parts,
+                    width: f.width,
                 };
             }
             Covered::Nothing
@@ -333,9 +359,9 @@ pub fn least_length(count: usize, id: u8) -> usize
     ensures { λ r. ⌜ r ≡ rowOf id .least + maskBytes count ⌝ }
 {
     let classes = CLASSES;
-    let table = ROWS;
-    let row = row_of(&classes, &table, id);
-    ((row % 256) as usize) + mask_bytes(count)
+    let rows = ROWS;
+    let class = class_of(&classes, id);
+    (rows[class][LEAST] as usize) + mask_bytes(count)
 }
 
 // A, the bytes of an application mask.
@@ -364,29 +390,4 @@ pub fn pair_from(s: &[u8], at: usize) -> usize
         return byte_from(s, at) * 256 + byte_from(s, at + 1);
     }
     0
-}
-
-// The code mask of an entry whose extras begin at a place, by the number of its extras; 0 where there is none.
-fn codes_from(extras: u32, s: &[u8], at: usize) -> usize
-    ensures { λ r. ⌜ r ≡ codesBy extras (now (s .entry)) at ⌝ }
-{
-    if extras == 1 {
-        return pair_from(s, at);
-    }
-    if (extras == 2) & (at < s.len()) {
-        return pair_from(s, at + 1);
-    }
-    0
-}
-
-// The codes that the fields of an entry accept, a bit for each, by the rows of its ID; its extras begin at a place.
-pub fn listed_from(row: u32, values: u32, s: &[u8], at: usize) -> usize
-    ensures { λ r. ⌜ r ≡ listedBy row values (codesBy (extrasIn row) (now (s .entry)) at) ⌝ }
-{
-    let all = (values % 0x10000) as usize;
-    let extras = row / 0x10000000;
-    if extras == 0 {
-        return all;
-    }
-    all & codes_from(extras, s, at)
 }

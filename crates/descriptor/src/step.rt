@@ -2,10 +2,16 @@
 ghost use mathlib.Core.Path.{_≡_};
 ghost use Prim.Native.Nat.{_<_, _+_};
 ghost use lib.ListN.{length};
+ghost use lib.Dec.{ltb};
 ghost use Rattle.rules.specs.Descriptor.{byteAt, mediaSide, entryAt, contentChecks, decodeAt};
 ghost use Rattle.descriptor.specs.Steps.{steppedOf, stepBy, standsBy, lateBy, Walking, Standing};
-use crate::rows::row_of;
+use crate::rows::class_of;
 use crate::state::next;
+use crate::table::FLAGS;
+use crate::table::LEAST;
+use crate::table::NEEDED;
+use crate::table::SIDE;
+use crate::table::STEP;
 use rules::State;
 
 // Past an entry, with the place and the state after it, or the number of the first check that it fails.
@@ -24,30 +30,30 @@ pub fn byte_at(s: &[u8], i: usize) -> u8
     0
 }
 
-// The step byte of an entry whose extras begin at a place, 0 where its ID has none.
-fn step_in(extras: u32, s: &[u8], at: usize) -> u8
-    requires { ⌜ (2 < extras → at + 1 < length (now s)) ⌝ }
-    ensures { λ r. ⌜ r ≡ stepBy extras (now (s .entry)) at ⌝ }
+// The step byte of an entry, by its place, 0 where its ID has none; the entry's start and A are given as one number.
+fn step_in(place: u8, s: &[u8], from: usize) -> u8
+    requires { ⌜ (0 < place → from + place < length (now s)) ⌝ }
+    ensures { λ r. ⌜ r ≡ stepBy place (now (s .entry)) from ⌝ }
 {
-    if 2 < extras {
-        return s[at + 1];
+    if 0 < place {
+        return s[from + (place as usize)];
     }
     0
 }
 
-// Whether an entry with its PropertyFlags at a place is media side. IDs with no parts have none.
-fn media_at(parts: u32, s: &[u8], at: usize) -> bool
-    requires { ⌜ (0 < parts → at < length (now s)) ⌝ }
-    ensures { λ r. ⌜ r ≡ mediaSide parts (byteAt (now (s .entry)) at) ⌝ }
+// Whether an entry with its PropertyFlags at a place is media side, where they are read.
+fn media_at(read: u8, s: &[u8], at: usize) -> bool
+    requires { ⌜ (0 < read → at < length (now s)) ⌝ }
+    ensures { λ r. ⌜ r ≡ mediaSide (ltb 0 read) (byteAt (now (s .entry)) at) ⌝ }
 {
-    if 0 < parts {
+    if 0 < read {
         return s[at] % 2 == 1;
     }
     false
 }
 
 // Whether an ID of a side (1 RW, 2 RO, 3 both) may stand in a string.
-fn stands(side: u32, in_ro: bool) -> bool
+fn stands(side: u8, in_ro: bool) -> bool
     ensures { λ r. ⌜ r ≡ standsBy side in_ro ⌝ }
 {
     if in_ro {
@@ -66,22 +72,30 @@ fn late_host(id: u8, media: bool, passed: bool) -> bool
     false
 }
 
-// 3 to 7, for the entry at a place, with the row of its ID.
-fn content(row: u32, in_ro: bool, a: usize, s: &[u8], at: usize, st: State) -> Stepped
-    requires { ⌜ Standing row a (now s) at st ⌝ }
+// 3 to 7, for the entry at a place, with the class of its ID.
+fn content(
+    rows: &[[u8; 5]; 10],
+    class: usize,
+    in_ro: bool,
+    a: usize,
+    s: &[u8],
+    at: usize,
+    st: State,
+) -> Stepped
+    requires { ⌜ Standing (now rows) class a (now s) at st ⌝ }
     ensures { λ r. ⌜ r ≡ steppedOf at st (contentChecks in_ro st (entryAt a (now (s .entry)) at (st .sum))) ⌝ }
 {
-    if !stands(row / 0x1000000 % 16, in_ro) {
+    if !stands(rows[class][SIDE], in_ro) {
         return Stepped::Refused(3);
     }
     let memory = s[at + 2 + a] as usize;
-    if memory < ((row / 0x100 % 256) as usize) {
+    if memory < (rows[class][NEEDED] as usize) {
         return Stepped::Refused(4);
     }
-    if 3 < step_in(row / 0x10000000, s, at + 4 + a) {
+    if 3 < step_in(rows[class][STEP], s, at + a) {
         return Stepped::Refused(5);
     }
-    let media = media_at(row / 0x100000 % 16, s, at + 3 + a);
+    let media = media_at(rows[class][FLAGS], s, at + 3 + a);
     if late_host(s[at], media, st.media) {
         return Stepped::Refused(6);
     }
@@ -94,14 +108,14 @@ fn content(row: u32, in_ro: bool, a: usize, s: &[u8], at: usize, st: State) -> S
 // The entry at a place: 1 and 2, then 3 to 7.
 pub fn step(
     classes: &[u8; 19],
-    table: &[u32; 10],
+    rows: &[[u8; 5]; 10],
     in_ro: bool,
     a: usize,
     s: &[u8],
     at: usize,
     st: State,
 ) -> Stepped
-    requires { ⌜ Walking (now classes) (now table) a (now s) at st ⌝ }
+    requires { ⌜ Walking (now classes) (now rows) a (now s) at st ⌝ }
     ensures { λ r. ⌜ r ≡ steppedOf at st (decodeAt in_ro a (now (s .entry)) at st) ⌝ }
 {
     if at + 1 == s.len() {
@@ -111,9 +125,9 @@ pub fn step(
     if s.len() < at + length {
         return Stepped::Refused(1);
     }
-    let row = row_of(classes, table, s[at]);
-    if length < ((row % 256) as usize) + a {
+    let class = class_of(classes, s[at]);
+    if length < (rows[class][LEAST] as usize) + a {
         return Stepped::Refused(2);
     }
-    content(row, in_ro, a, s, at, st)
+    content(rows, class, in_ro, a, s, at, st)
 }

@@ -100,7 +100,7 @@ fn put_entry(out: &mut [u8; 1024], at: usize, a: usize, s: &[u8], from: usize, s
 // A line for each entry of a string, up to its end or an entry that fails a check.
 fn put_entries(
     classes: &[u8; 19],
-    table: &[u32; 10],
+    rows: &[[u8; 5]; 10],
     in_ro: bool,
     a: usize,
     s: &[u8],
@@ -108,7 +108,7 @@ fn put_entries(
     out: &mut [u8; 1024],
     at: usize,
 ) -> Listed
-    requires { ⌜ Ready (now classes) (now table) a (now s) begin ⌝ }
+    requires { ⌜ Ready (now classes) (now rows) a (now s) begin ⌝ }
     requires { ⌜ at + 4 * length (now s) ≤ 1024 ⌝ }
     ensures { λ r. ⌜ Listing in_ro a (now (s .entry)) begin at (now (out .entry)) (r .at) (r .end) (now (out .exit)) ⌝ }
 {
@@ -116,7 +116,7 @@ fn put_entries(
     let mut st = begin;
     let mut line = at;
     while from < s.len() {
-        let d = step(classes, table, in_ro, a, s, from, st);
+        let d = step(classes, rows, in_ro, a, s, from, st);
         let Stepped::Past(place, after) = d else {
             return Listed { at: line, end: st };
         };
@@ -165,12 +165,12 @@ fn put_map(count: usize, rw: &[u8], ro: &[u8], out: &mut [u8; 1024]) -> usize
     ensures { λ n. ⌜ Printed (mapText (loadOf count (now (rw .entry)) (now (ro .entry))) (entriesOf count (now (rw .entry)) (now (ro .entry)))) (now (out .entry)) n (now (out .exit)) ⌝ }
 {
     let classes = CLASSES;
-    let table = ROWS;
+    let rows = ROWS;
     let a = mask_bytes(count);
     let head = put_text(out, 0, b"entry id offset length\n");
-    let one = put_entries(&classes, &table, false, a, rw, start(), out, head);
+    let one = put_entries(&classes, &rows, false, a, rw, start(), out, head);
     let m = one.end;
-    let two = put_entries(&classes, &table, true, a, ro, into_ro(m), out, one.at);
+    let two = put_entries(&classes, &rows, true, a, ro, into_ro(m), out, one.at);
     let e = two.end;
     put_end(out, two.at, m.sum, e.sum)
 }

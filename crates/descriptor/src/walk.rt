@@ -24,20 +24,20 @@ fn stopped(d: Stepped, number: usize) -> Walked
 // The walk of a string from a place on, with what it keeps of all that stands before it.
 pub fn scan(
     classes: &[u8; 19],
-    table: &[u32; 10],
+    rows: &[[u8; 5]; 10],
     in_ro: bool,
     a: usize,
     s: &[u8],
     from: usize,
     begin: State,
 ) -> Walked
-    requires { ⌜ Ready (now classes) (now table) a (now s) begin ⌝ }
+    requires { ⌜ Ready (now classes) (now rows) a (now s) begin ⌝ }
     ensures { λ r. ⌜ r ≡ walkOf in_ro a (now (s .entry)) from begin ⌝ }
 {
     let mut at = from;
     let mut st = begin;
     while at < s.len() {
-        let d = step(classes, table, in_ro, a, s, at, st);
+        let d = step(classes, rows, in_ro, a, s, at, st);
         let Stepped::Past(place, after) = d else {
             return stopped(d, st.number);
         };

@@ -3,7 +3,6 @@ use mathlib.Core.Path.{_≡_}
 use mathlib.Core.Bool.{true, false, _&&_}
 use mathlib.Core.List.{List}
 use Prim.Native.Nat.{ℕ, _+_, _-_, _*_, _/_, _%_, _≤_, _<_}
-use native.Mathlib.Nat.{mod-lt}
 use native.Mathlib.Omega.{arith}
 use lib.Dec.{ltb}
 use Rattle.rules.specs.declared.Refusal.the-variants.{Plain as plain}
@@ -16,8 +15,7 @@ use Rattle.rules.proofs.PlaceCalls.{place-10, place-11, place-at}
 use Rattle.descriptor.specs.declared.Named.{Named}
 use Rattle.descriptor.specs.Find.{InMap}
 use Rattle.descriptor.proofs.Finds.{offset-is, parts-is, width-is, side-is}
-use Rattle.descriptor.specs.Rows.{rowNumber}
-use Rattle.descriptor.proofs.TableRows.{row}
+use Rattle.descriptor.proofs.TableRows.{parts-few, width-narrow}
 
 module _ (count : ℕ) (first last : List ℕ) {e : ℕ} {f : Named} (z : InMap count first last e f) where
   abbrev m : Map
@@ -27,12 +25,10 @@ module _ (count : ℕ) (first last : List ℕ) {e : ℕ} {f : Named} (z : InMap 
   offset-small = rw (offset-is count first last z) (omega (arith, entry-fits count first last (z .ok) e (z .there)))
 
   pub parts-small : f .parts < 16
-  unfolding partsOf
-  parts-small = rw (parts-is count first last z, ← row (entry m e .id) .parts) (mod-lt (rowNumber (entry m e .id) / 0x100000) (omega arith))
+  parts-small = rw (parts-is count first last z) (parts-few (entry m e))
 
   pub width-small : f .width < 16
-  unfolding widthOf
-  width-small = rw (width-is count first last z, ← row (entry m e .id) .width) (mod-lt (rowNumber (entry m e .id) / 0x10000) (omega arith))
+  width-small = rw (width-is count first last z) (width-narrow (entry m e))
 
   module _ (s p i : ℕ) where
     pub placing-10 : (isSet s && (ltb p (f .parts) && isLane i)) ≡ false → notPlaced (plain 10) ≡ placeOf count first last s e p i

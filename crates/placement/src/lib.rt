@@ -7,7 +7,6 @@ use descriptor::Covered;
 use descriptor::Found;
 use descriptor::cover;
 use descriptor::find;
-use descriptor::shape_of;
 use rules::Owned;
 use rules::Placed;
 use rules::Refusal;
@@ -45,13 +44,11 @@ pub fn place(
 }
 
 // The field that has a bit of an entry's space, counted from its offset: a part's bits in a row, W to a lane.
-fn field_in(number: usize, id: usize, byte: usize, bit: usize) -> Owned
-    requires { ⌜ (byte ≤ 256) × (bit < 8) ⌝ }
-    ensures { λ r. ⌜ r ≡ fieldIn number id byte bit ⌝ }
+fn field_in(number: usize, parts: usize, width: usize, byte: usize, bit: usize) -> Owned
+    requires { ⌜ (parts < 16) × (width < 16) × (byte ≤ 256) × (bit < 8) ⌝ }
+    ensures { λ r. ⌜ r ≡ fieldIn number parts width byte bit ⌝ }
 {
-    let shape = shape_of(id);
-    let width = shape.width;
-    if !(byte < shape.parts * width) {
+    if !(byte < parts * width) {
         return Owned::Gap;
     }
     let bits = byte % width * 8 + bit;
@@ -73,13 +70,14 @@ pub fn owner(count: usize, rw: &[u8], ro: &[u8], set: usize, offset: usize, bit:
         Covered::By {
             ro: in_ro,
             number,
-            id,
             offset: start,
+            parts,
+            width,
         } => {
             if !((set < 3) & (!((set < 2) & in_ro) & (bit < 8))) {
                 return Owned::Refused(Refusal::Plain(10));
             }
-            field_in(number, id, offset - start, bit)
+            field_in(number, parts, width, offset - start, bit)
         }
     }
 }

@@ -3,7 +3,7 @@ use mathlib.Core.Path.{_≡_, refl, _∙_}
 use mathlib.Core.Logic.{_⊎_, inl, inr, ⊎-elim, _↔_, Iff·rfl, Iff·symm, Iff·trans}
 use mathlib.Core.Bool.{Bool, true, false, _&&_, _||_, not, cond}
 use mathlib.Core.List.{List, [], _∷_}
-use Prim.Native.Nat.{ℕ, _+_, _<_}
+use Prim.Native.Nat.{ℕ, zero, suc, _+_, _<_}
 use native.Mathlib.Omega.{arith}
 use borrow.Author.Tests.{le-leb, ne-eqb}
 use lib.IntN.{ℤ, pos, negsuc}
@@ -11,10 +11,10 @@ use lib.Signed.{leZ, leZ-yes}
 use lib.Dec.{T, ltb, leb, eqb, eqb→eq}
 use lib.ListN.{List·getD-eq-default}
 use Rattle.rules.specs.Words.{Entry}
-use Rattle.rules.specs.Parameter.{both, Extras, none, codes, indexCodes, indexStep, Range, Row, rows, space, rowOf}
+use Rattle.rules.specs.Parameter.{both, Position, absent, after, Range, Row, rows, space, rowOf}
 use Rattle.rules.specs.Descriptor.{codesOf, stepOf, entryAt}
 use Rattle.rules.specs.Place.{partsOf, widthOf, signedOf}
-use Rattle.rules.specs.Accept.{within, inCodes, accepts}
+use Rattle.rules.specs.Accept.{within, inMask, inCodes, accepts}
 use Rattle.rules.specs.Columns.{Extra, index, codeMask, step, Values, numbers, ifInMask, Cells, Line, lines, Space, Among, SomeLine, OfLine, InRanges, InMask, Takes, Accepts, BelowLeast, BelowNeeded, Shaped, TwosComplement, ExtrasAt, ExtrasRead}
 use Rattle.rules.proofs.Tests.{is-true, is-false, and₂, and₄, or-cases, or-yes, either}
 use Rattle.rules.proofs.Facts.{lt-says, le-says, eq-says, true-says, or-says, and-says}
@@ -23,25 +23,28 @@ use Rattle.rules.proofs.Ids.{every-id, by-row}
 
 -- a row's cells in 01's words
 
-abbrev named : Extras → List Extra
-named none = []
-named codes = codeMask ∷ []
-named indexCodes = index ∷ codeMask ∷ []
-named indexStep = index ∷ step ∷ []
+-- an extra after some bytes of indexes; of both at once there is no row
+abbrev indexed : ℕ → Extra → List Extra
+indexed zero x = x ∷ []
+indexed (suc n) x = index ∷ indexed n x
+
+abbrev named : Position → Position → List Extra
+named absent absent = []
+named (after n) absent = indexed n codeMask
+named absent (after n) = indexed n step
+named (after n) (after k) = []
 
 abbrev pairs : List Range → List (ℤ × ℤ)
 pairs [] = []
 pairs (r ∷ l) = (r .low, r .high) ∷ pairs l
 
-abbrev accepted : Extras → List Range → Values
-accepted none l = numbers (pairs l)
-accepted codes l = ifInMask (pairs l)
-accepted indexCodes l = ifInMask (pairs l)
-accepted indexStep l = numbers (pairs l)
+abbrev accepted : Position → List Range → Values
+accepted absent l = numbers (pairs l)
+accepted (after n) l = ifInMask (pairs l)
 
 abbrev cellsOf : Row → Cells
 cellsOf r =
-    record { parts = r .parts; width = r .width; needed = r .needed; least = r .least; extras = named (r .extras); values = accepted (r .extras) (r .values) }
+    record { parts = r .parts; width = r .width; needed = r .needed; least = r .least; extras = named (r .codesAt) (r .stepAt); values = accepted (r .codesAt) (r .values) }
 
 -- the rows of a line's IDs have that line's cells: one comparison, computed
 abbrev each : (ℕ → Cells) → List ℕ → List Cells
@@ -161,17 +164,15 @@ ranges-say [] v = Iff·rfl
 ranges-say (r ∷ l) v =
     or-says (leZ (r .low) v && leZ v (r .high)) (within l v) (and-says (leZ (r .low) v) (leZ v (r .high)) (leZ-yes, λ h. h .le) (leZ-yes, λ h. h .le)) (ranges-say l v)
 
-mask-says : (mask : ℕ) (v : ℤ) → T (inCodes codes mask v) ↔ InMask mask v
-unfolding inCodes
+mask-says : (mask : ℕ) (v : ℤ) → T (inMask mask v) ↔ InMask mask v
+unfolding inMask
 mask-says mask (pos n) = eq-says _ 1
 mask-says mask (negsuc n) = Iff·rfl
 
-values-say : (x : Extras) (l : List Range) (mask : ℕ) (v : ℤ) → T (within l v && inCodes x mask v) ↔ Takes (accepted x l) mask v
+values-say : (x : Position) (l : List Range) (mask : ℕ) (v : ℤ) → T (within l v && inCodes x mask v) ↔ Takes (accepted x l) mask v
 unfolding inCodes
-values-say none l mask v = Iff·trans (and-says (within l v) true (ranges-say l v) Iff·rfl) (λ h. h .0, λ h. (h, tt))
-values-say codes l mask v = and-says (within l v) _ (ranges-say l v) (mask-says mask v)
-values-say indexCodes l mask v = and-says (within l v) _ (ranges-say l v) (mask-says mask v)
-values-say indexStep l mask v = Iff·trans (and-says (within l v) true (ranges-say l v) Iff·rfl) (λ h. h .0, λ h. (h, tt))
+values-say absent l mask v = Iff·trans (and-says (within l v) true (ranges-say l v) Iff·rfl) (λ h. h .0, λ h. (h, tt))
+values-say (after n) l mask v = and-says (within l v) _ (ranges-say l v) (mask-says mask v)
 
 none-within : (l : List Range) (v : ℤ) → T (noValues l) → ¬ (T (within l v))
 unfolding within
@@ -182,13 +183,13 @@ pub accepts-says : (e : Entry) (v : ℤ) → T (accepts e v) ↔ Accepts (e .id)
 unfolding accepts
 accepts-says e v =
     Iff·trans
-    (by-line (e .id) (λ c. Takes (c .values) (e .codes) v) (values-say (r .extras) (r .values) (e .codes) v) space)
+    (by-line (e .id) (λ c. Takes (c .values) (e .codes) v) (values-say (r .codesAt) (r .values) (e .codes) v) space)
     (⊎-elim (λ h. h) (λ h. absurd (h .1)), inl)
   where
     r : Row
     r = rowOf (e .id)
 
-    space : Spacious r → T (within (r .values) v && inCodes (r .extras) (e .codes) v) ↔ ⊥
+    space : Spacious r → T (within (r .values) v && inCodes (r .codesAt) (e .codes) v) ↔ ⊥
     space s = (λ h. none-within (r .values) v (s .values) (and₂ (within (r .values) v) _ h .0), λ h. absurd h)
 
 -- parts, bits a lane, sign
@@ -211,19 +212,23 @@ sign-says e =
     (Iff·trans (Iff·symm (true-says _)) (or-says (eqb (e .id) 0x11) (eqb (e .id) 0x12) (eq-says (e .id) 0x11) (eq-says (e .id) 0x12)))
 
 -- extras
-extras-at : (x : Extras) (s : List ℕ) (at : ℕ) (e : Entry) → e .codes ≡ codesOf x s at → e .step ≡ stepOf x s at → ExtrasAt (named x) s at e
+past-index : (n : ℕ) (x : Extra) (s : List ℕ) (at : ℕ) (e : Entry) → ExtrasAt (x ∷ []) s (at + n) e → ExtrasAt (indexed n x) s at e
+past-index zero x s at e h = let q : at + 0 ≡ at = omega arith in rw q at h
+past-index (suc n) x s at e h = let q : at + suc n ≡ at + 1 + n = omega arith in past-index n x s (at + 1) e (rw q at h)
+
+extras-at : (x y : Position) (s : List ℕ) (at : ℕ) (e : Entry) → e .codes ≡ codesOf x s at → e .step ≡ stepOf y s at → ExtrasAt (named x y) s at e
 unfolding codesOf stepOf
-extras-at none s at e p q = tt
-extras-at codes s at e p q = (p ∙ high-two s at, tt)
-extras-at indexCodes s at e p q = (p ∙ high-two s (at + 1), tt)
-extras-at indexStep s at e p q = (q, tt)
+extras-at absent absent s at e p q = tt
+extras-at (after n) absent s at e p q = past-index n codeMask s at e (p ∙ high-two s (at + n), tt)
+extras-at absent (after n) s at e p q = past-index n step s at e (q, tt)
+extras-at (after n) (after k) s at e p q = tt
 
 -- an entry that is read at a place
 pub extras-say : (a : ℕ) (s : List ℕ) (from offset : ℕ) {e : Entry} → e ≡ entryAt a s from offset → ExtrasRead a s e
 extras-say a s from offset {e} q =
     rw q
     (⊎-elim inl (λ h. inr (h .0))
-    (line-of (x .id) (λ c. ExtrasAt (c .extras) s at x) (extras-at (rowOf (x .id) .extras) s at x refl refl)))
+    (line-of (x .id) (λ c. ExtrasAt (c .extras) s at x) (extras-at (rowOf (x .id) .codesAt) (rowOf (x .id) .stepAt) s at x refl refl)))
   where
     x : Entry
     x = entryAt a s from offset

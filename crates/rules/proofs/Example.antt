@@ -11,7 +11,7 @@ use Rattle.rules.specs.Parameter.{rowOf}
 use Rattle.rules.specs.Descriptor.{maskBytes, highFirst, codesOf, stepOf, refuse, lengthChecks, contentChecks, decodeAt}
 use Rattle.rules.specs.Load.{foldBy, foldOf, walkOf, entriesFrom, stringsOf, loadOf, rwEntries, roEntries, entriesOf, total, mapOf}
 use Rattle.rules.specs.Place.{partsOf, widthOf, signedOf, heldBy, lengthOf, firstOwner, ownerOf}
-use Rattle.rules.specs.Accept.{within, inCodes, accepts, toBits, fromBits}
+use Rattle.rules.specs.Accept.{within, inMask, inCodes, accepts, toBits, fromBits}
 use Rattle.rules.specs.Refuse.{check9, check8, check1to7, exists, misdirected, unaccepted, judge, atLowest, bankOrder, orderOf}
 use Rattle.rules.specs.Layout.{bankSize, setStart, appSelStart, appSelAt}
 use Rattle.rules.specs.Bank.{Bank, getField, putField, numberIn, withNumber, fieldBits, bankLacksApp, bankCopies, bankHoldsBad, bankPlan, loop, copyField, applyBank, bankDoes, bankStep, freshBank, freshStep, bankMakes}
@@ -95,12 +95,12 @@ example-accepted = record { rwCount = 3; roCount = 1; staged = 8; active = 16; l
 
 -- the bank machine, computed
 pub example-bank : bankRun 2 rwString roString bank (map call calls) .0 ≡ answers
-unfolding sum any lowest rowOf maskBytes highFirst codesOf stepOf refuse lengthChecks contentChecks decodeAt foldBy foldOf walkOf entriesFrom stringsOf loadOf rwEntries roEntries entriesOf total mapOf partsOf widthOf signedOf heldBy lengthOf firstOwner ownerOf within inCodes accepts toBits fromBits check9 check8 check1to7 exists misdirected unaccepted judge atLowest bankOrder getField putField numberIn withNumber fieldBits bankLacksApp bankCopies bankHoldsBad bankPlan loop copyField applyBank bankDoes bankStep freshBank freshStep bankMakes run bankSize setStart appSelStart appSelAt
+unfolding sum any lowest rowOf maskBytes highFirst codesOf stepOf refuse lengthChecks contentChecks decodeAt foldBy foldOf walkOf entriesFrom stringsOf loadOf rwEntries roEntries entriesOf total mapOf partsOf widthOf signedOf heldBy lengthOf firstOwner ownerOf within inMask inCodes accepts toBits fromBits check9 check8 check1to7 exists misdirected unaccepted judge atLowest bankOrder getField putField numberIn withNumber fieldBits bankLacksApp bankCopies bankHoldsBad bankPlan loop copyField applyBank bankDoes bankStep freshBank freshStep bankMakes run bankSize setStart appSelStart appSelAt
 example-bank = refl
 
 -- the plain table, computed
 pub example-table : tableRun 2 rwString roString (map call calls) .0 ≡ answers
-unfolding sum any lowest rowOf maskBytes highFirst codesOf stepOf refuse lengthChecks contentChecks decodeAt foldBy foldOf walkOf entriesFrom stringsOf loadOf rwEntries roEntries entriesOf total mapOf partsOf widthOf signedOf heldBy lengthOf within inCodes accepts toBits fromBits check9 check1to7 exists misdirected unaccepted judge atLowest orderOf byteFrom tableLacksApp tableCopies tableHoldsBad tablePlan tableDoes tableStep tableMakes run
+unfolding sum any lowest rowOf maskBytes highFirst codesOf stepOf refuse lengthChecks contentChecks decodeAt foldBy foldOf walkOf entriesFrom stringsOf loadOf rwEntries roEntries entriesOf total mapOf partsOf widthOf signedOf heldBy lengthOf within inMask inCodes accepts toBits fromBits check9 check1to7 exists misdirected unaccepted judge atLowest orderOf byteFrom tableLacksApp tableCopies tableHoldsBad tablePlan tableDoes tableStep tableMakes run
 example-table = refl
 
 -- demand 3 of this module, bank and list: its premises are met

@@ -7,25 +7,26 @@ use lib.Signed.{leZ}
 use lib.Dec.{ltb}
 use Rattle.rules.specs.Words.{Entry}
 use Rattle.rules.specs.Numbers.{bitOf}
-use Rattle.rules.specs.Parameter.{Extras, none, codes, indexCodes, indexStep, Range, rowOf}
+use Rattle.rules.specs.Parameter.{Position, absent, after, Range, rowOf}
 
 -- the numbers of the table's last column
 unfoldable pub within : List Range → ℤ → Bool
 within [] v = false
 within (r ∷ l) v = (leZ (r .low) v && leZ v (r .high)) || within l v
 
--- "value v is in it if bit v is 1"; an ID without a code mask has none to ask
-unfoldable pub inCodes : Extras → ℕ → ℤ → Bool
-inCodes none mask v = true
-inCodes codes mask (pos n) = bitOf mask n
-inCodes codes mask (negsuc n) = false
-inCodes indexCodes mask (pos n) = bitOf mask n
-inCodes indexCodes mask (negsuc n) = false
-inCodes indexStep mask v = true
+-- "value v is in it if bit v is 1"
+unfoldable pub inMask : ℕ → ℤ → Bool
+inMask mask (pos n) = bitOf mask n
+inMask mask (negsuc n) = false
+
+-- an ID without a code mask has none to ask
+unfoldable pub inCodes : Position → ℕ → ℤ → Bool
+inCodes absent mask v = true
+inCodes (after n) mask v = inMask mask v
 
 -- "accepted values" of an entry: in the column's numbers and, for an ID with a code mask, "if in the mask"
 unfoldable pub accepts : Entry → ℤ → Bool
-accepts e v = within (rowOf (e .id) .values) v && inCodes (rowOf (e .id) .extras) (e .codes) v
+accepts e v = within (rowOf (e .id) .values) v && inCodes (rowOf (e .id) .codesAt) (e .codes) v
 
 -- the w bits that stand for a number, "as an unsigned pattern"
 unfoldable pub toBits : ℕ → ℤ → ℕ

@@ -6,7 +6,7 @@ use lib.ListN.{length, getD}
 use lib.Dec.{ltb, leb, eqb}
 use Rattle.rules.specs.Words.{Entry, Decoded, decoded, failed, State}
 use Rattle.rules.specs.Numbers.{bitOf}
-use Rattle.rules.specs.Parameter.{Side, RW, RO, both, Extras, none, codes, indexCodes, indexStep, rowOf}
+use Rattle.rules.specs.Parameter.{Side, RW, RO, both, Position, absent, after, rowOf}
 
 -- "A, the bytes of an application mask, is 1 for a count of 1 to 8 and 2 above."
 unfoldable pub maskBytes : ℕ → ℕ
@@ -28,22 +28,18 @@ unfoldable pub highFirst : List ℕ → ℕ → ℕ → ℕ
 highFirst s at zero = 0
 highFirst s at (suc n) = highFirst s at n * 256 + byteAt s (at + n)
 
--- "then the extras named in the table", from a place on: the code mask ("2 bytes, high byte first"), after the index in 07h; the step after the index in 12h
-unfoldable pub codesOf : Extras → List ℕ → ℕ → ℕ
-codesOf none s at = 0
-codesOf codes s at = highFirst s at 2
-codesOf indexCodes s at = highFirst s (at + 1) 2
-codesOf indexStep s at = 0
+-- "then the extras named in the table", from a place on: the code mask ("2 bytes, high byte first") and the step, 0 where there is none
+unfoldable pub codesOf : Position → List ℕ → ℕ → ℕ
+codesOf absent s at = 0
+codesOf (after n) s at = highFirst s (at + n) 2
 
-unfoldable pub stepOf : Extras → List ℕ → ℕ → ℕ
-stepOf none s at = 0
-stepOf codes s at = 0
-stepOf indexCodes s at = 0
-stepOf indexStep s at = byteAt s (at + 1)
+unfoldable pub stepOf : Position → List ℕ → ℕ → ℕ
+stepOf absent s at = 0
+stepOf (after n) s at = byteAt s (at + n)
 
--- "for the IDs of the table, PropertyFlags, 1 byte": the IDs with fields; the others' "flags are not read". "Bit 0 set means media side"
-abbrev pub mediaSide : ℕ → ℕ → Bool
-mediaSide parts flags = ltb 0 parts && eqb (flags % 2) 1
+-- "for the IDs of the table, PropertyFlags, 1 byte"; the others' "flags are not read". "Bit 0 set means media side"
+abbrev pub mediaSide : Bool → ℕ → Bool
+mediaSide read flags = read && eqb (flags % 2) 1
 
 -- "An entry is: ID, 1 byte; Length, 1 byte, counting the whole entry; application mask, A bytes, high byte first; MemoryLength,
 -- 1 byte; for the IDs of the table, PropertyFlags, 1 byte; then the extras named in the table": the one at a place of a string
@@ -56,9 +52,9 @@ entryAt a s at offset =
       length = byteAt s (at + 1);
       mask = highFirst s (at + 2) a;
       memory = byteAt s (at + 2 + a);
-      media = mediaSide (rowOf (byteAt s at) .parts) (byteAt s (at + 3 + a));
-      codes = codesOf (rowOf (byteAt s at) .extras) s (at + 4 + a);
-      step = stepOf (rowOf (byteAt s at) .extras) s (at + 4 + a);
+      media = mediaSide (rowOf (byteAt s at) .flags) (byteAt s (at + 3 + a));
+      codes = codesOf (rowOf (byteAt s at) .codesAt) s (at + 4 + a);
+      step = stepOf (rowOf (byteAt s at) .stepAt) s (at + 4 + a);
       offset = offset;
     }
 

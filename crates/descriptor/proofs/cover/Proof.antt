@@ -1,14 +1,15 @@
 -- `cover` meets its contract.
-use mathlib.Core.Path.{_≡_, sym, _∙_}
+use mathlib.Core.Path.{_≡_, refl, sym, _∙_}
 use mathlib.Core.Bool.{true, false}
 use Prim.Native.Nat.{_+_, _≤_, _<_}
 use native.Mathlib.Omega.{arith}
-use lib.ListN.{length}
 use denote.Ref.{now}
 use Rattle.rules.specs.declared.Loaded.the-variants.{Accepted as accepted}
-use Rattle.rules.specs.Descriptor.{maskBytes, byteAt}
+use Rattle.rules.specs.Descriptor.{maskBytes, entryAt}
 use Rattle.rules.specs.Load.{loadOf}
+use Rattle.rules.specs.Place.{partsOf, widthOf}
 use Rattle.descriptor.specs.declared.Covered.the-variants.{By as by}
+use Rattle.descriptor.specs.Find.{namedOf}
 use Rattle.descriptor.specs.Cover.{coverOf, Hits}
 use Rattle.descriptor.proofs.Covers.{cover-rejected, covers-seeks, covers-found, covers-past, covers-none}
 use borrow.Author.Needs.{needs}
@@ -41,7 +42,8 @@ in-first : (c : tie.Then1) →
     let k = c .before .before .before .before in
     let g = k .before .before .before .before .before .before .args in
     let h = c .before .before .look .result in
-    (h .at < length (now (g .rw))) × (by false (h .number) (byteAt (now (g .rw)) (h .at)) (h .sum) ≡ coverOf (g .count) (now (g .rw)) (now (g .ro)) (g .offset)) × (h .number ≤ 240)
+    let e = entryAt (maskBytes (g .count)) (now (g .rw)) (h .at) (h .sum) in
+    (h .at ≤ 120) × (by false (h .number) (h .sum) (partsOf e) (widthOf e) ≡ coverOf (g .count) (now (g .rw)) (now (g .ro)) (g .offset)) × (h .number ≤ 240)
 in-first c =
     let k = c .before .before .before .before in
     let g = k .before .before .before .before .before .before .args in
@@ -51,8 +53,9 @@ in-last : (c : tie.Then2) →
     let k = c .before .before .before .before .before .before .before in
     let g = k .before .before .before .before .before .before .args in
     let h = c .before .before .look2 .result in
-    let e = k .before .loaded2 .given .0 .0 + h .number in
-    (h .at < length (now (g .ro))) × (by true e (byteAt (now (g .ro)) (h .at)) (h .sum) ≡ coverOf (g .count) (now (g .rw)) (now (g .ro)) (g .offset)) × (e ≤ 240)
+    let e = entryAt (maskBytes (g .count)) (now (g .ro)) (h .at) (h .sum) in
+    let n = k .before .loaded2 .given .0 .0 + h .number in
+    (h .at ≤ 120) × (by true n (h .sum) (partsOf e) (widthOf e) ≡ coverOf (g .count) (now (g .rw)) (now (g .ro)) (g .offset)) × (n ≤ 240)
 in-last c =
     let k = c .before .before .before .before .before .before .before in
     let g = k .before .before .before .before .before .before .args in
@@ -76,14 +79,14 @@ look-requires c κs =
     let g = k .before .before .before .before .before .before .args in
     (rw (c .mask-bytes .ensures .0) (covers-seeks (g .count) (now (g .rw)) (now (g .ro)) (g .offset) _ _ _ _ (loads k) false), omega arith)
 
-shared-slice-read-t18 : tie.Need-shared-slice-read-t18
-shared-slice-read-t18 c = in-first (c .before) .0
-
-cast-t19 : tie.Need-cast-t19
-cast-t19 c = omega (arith, c .shared-slice-known3 .given (c .before .before .before .look .result .at) .fits)
+named-at-requires : tie.Need-named-at-requires
+named-at-requires c κs =
+    let h = c .before .before .before .before in
+    (record { classes-are = refl; rows-are = refl; fields-are = refl; listed-are = refl }, (h .before .before .before .mask-bytes .ensures .2, in-first h .0))
 
 returns : tie.Need-returns
-returns c = in-first (c .before) .1
+unfolding namedOf
+returns c = let h = c .before .before .before .before .before in rw (c .named-at .ensures, h .before .before .before .mask-bytes .ensures .0) (in-first h .1)
 
 look-requires-2 : tie.Need-look-requires-2
 look-requires-2 c κs =
@@ -95,17 +98,17 @@ look-requires-2 c κs =
       covers-past (g .count) (now (g .rw)) (now (g .ro)) (g .offset) _ _ _ _ (loads k) false (first l) (c .if1 .left),
     )
 
-add-t20 : tie.Need-add-t20
-add-t20 c = omega (arith, in-last (c .before) .2)
+named-at-requires-2 : tie.Need-named-at-requires-2
+named-at-requires-2 c κs =
+    let h = c .before .before .before .before in
+    (record { classes-are = refl; rows-are = refl; fields-are = refl; listed-are = refl }, (h .before .before .before .before .before .before .mask-bytes .ensures .2, in-last h .0))
 
-shared-slice-read-t22 : tie.Need-shared-slice-read-t22
-shared-slice-read-t22 c = in-last (c .before .before) .0
-
-cast-t23 : tie.Need-cast-t23
-cast-t23 c = omega (arith, c .shared-slice-known4 .given (c .before .before .before .before .look2 .result .at) .fits)
+add-t53 : tie.Need-add-t53
+add-t53 c = omega (arith, in-last (c .before .before .before .before .before .before) .2)
 
 returns-2 : tie.Need-returns-2
-returns-2 c = in-last (c .before .before) .1
+unfolding namedOf
+returns-2 c = let h = c .before .before .before .before .before .before in rw (c .before .named-at2 .ensures, h .before .before .before .before .before .before .mask-bytes .ensures .0) (in-last h .1)
 
 returns-3 : tie.Need-returns-3
 returns-3 c =
@@ -130,13 +133,11 @@ cover-spec =
     enum-known-loaded-2
     mask-bytes-requires
     look-requires
-    shared-slice-read-t18
-    cast-t19
+    named-at-requires
     returns
     look-requires-2
-    add-t20
-    shared-slice-read-t22
-    cast-t23
+    named-at-requires-2
+    add-t53
     returns-2
     returns-3
     returns-4)

@@ -52,19 +52,19 @@ mask-bytes-requires c κs = search needs
 
 named-at-requires : tie.Need-named-at-requires
 named-at-requires c κs =
-    let m = c .before .before .before .before in
-    (record { classes-are = refl; rows-are = refl; values-are = refl }, (m .mask-bytes .ensures .2, reads (m .before) .1))
+    let m = c .before .before .before .before .before in
+    (record { classes-are = refl; rows-are = refl; fields-are = refl; listed-are = refl }, (m .mask-bytes .ensures .2, reads (m .before) .1))
 
 returns-3 : tie.Need-returns-3
 returns-3 c =
-    let t = c .before .before .before .before in
+    let t = c .before .before .before .before .before in
     let m = t .before in
     ap Found.In (c .named-at .ensures) ∙ rw (m .mask-bytes .ensures .0) (rw (t .if3 .taken) at (reads (m .before) .0))
 
 named-at-requires-2 : tie.Need-named-at-requires-2
 named-at-requires-2 c κs =
-    let m = c .before .before .before .before in
-    (record { classes-are = refl; rows-are = refl; values-are = refl }, (m .mask-bytes .ensures .2, reads (m .before) .1))
+    let m = c .before .before .before .before .before in
+    (record { classes-are = refl; rows-are = refl; fields-are = refl; listed-are = refl }, (m .mask-bytes .ensures .2, reads (m .before) .1))
 
 returns-4 : tie.Need-returns-4
 returns-4 c =
@@ -74,7 +74,7 @@ returns-4 c =
 
 returns-5 : tie.Need-returns-5
 returns-5 c =
-    let t = c .before .before .before .before in
+    let t = c .before .before .before .before .before in
     let m = t .before in
     ap Found.In (c .named-at2 .ensures) ∙ rw (m .mask-bytes .ensures .0) (rw (t .if3 .left) at (reads (m .before) .0))
 

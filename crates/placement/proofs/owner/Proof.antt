@@ -14,17 +14,18 @@ use Rattle.placement.proofs.owner.Tie as tie
 covering : (c : tie.After-known-told2) →
     let g = c .before .before .before .before .before .before .args in
     let x = c .before .covered2 .given .0 in
-    Covering (g .count) (now (g .rw)) (now (g .ro)) (g .offset) (x .0) (x .1 .0) (x .1 .1 .0) (x .1 .1 .1 .0)
+    Covering (g .count) (now (g .rw)) (now (g .ro)) (g .offset) (x .0) (x .1 .0) (x .1 .1 .0) (x .1 .1 .1 .0) (x .1 .1 .1 .1 .0)
 covering c =
     let k = c .before .before .before in
     let g = k .before .before .before .args in
-    cover-one (g .count) (now (g .rw)) (now (g .ro)) (g .offset) _ _ _ _ (sym (k .cover .ensures) ∙ c .before .covered2 .given .1)
+    cover-one (g .count) (now (g .rw)) (now (g .ro)) (g .offset) _ _ _ _ _ (sym (k .cover .ensures) ∙ c .before .covered2 .given .1)
 
 -- its bytes and bits are small
 small : (c : tie.Else1) →
     let g = c .before .before .before .before .before .before .before .args in
-    let o = c .before .before .covered2 .given .0 .1 .1 .1 .0 in
-    (o ≤ g .offset) × (g .offset - o ≤ 256) × (g .bit < 8)
+    let x = c .before .before .covered2 .given .0 in
+    let o = x .1 .1 .0 in
+    (x .1 .1 .1 .0 < 16) × (x .1 .1 .1 .1 .0 < 16) × (o ≤ g .offset) × (g .offset - o ≤ 256) × (g .bit < 8)
 small c =
     let g = c .before .before .before .before .before .before .before .args in
     owns-small (g .count) (now (g .rw)) (now (g .ro)) (covering (c .before)) (g .set) (g .bit) (not-false _ (c .if1 .left))
@@ -47,10 +48,10 @@ returns c =
     owns-10 (g .count) (now (g .rw)) (now (g .ro)) (covering (c .before)) (g .set) (g .bit) (not-true _ (c .if1 .taken))
 
 sub-field-in : tie.Need-sub-field-in
-sub-field-in c = small c .0
+sub-field-in c = small c .2
 
 field-in-requires : tie.Need-field-in-requires
-field-in-requires c κs = (small c .1, small c .2)
+field-in-requires c κs = (small c .0, small c .1, small c .3, small c .4)
 
 returns-2 : tie.Need-returns-2
 returns-2 c =

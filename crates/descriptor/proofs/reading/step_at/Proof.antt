@@ -14,11 +14,11 @@ byte-at-requires c κs = search needs
 
 returns : tie.Need-returns
 unfolding stepBy
-returns c = rw (lt-ltb 2 (c .before .before .before .args .extras) (c .before .if1 .taken)) (c .byte-at .ensures)
+returns c = rw (lt-ltb 0 (c .before .before .before .args .place) (c .before .if1 .taken)) (c .byte-at .ensures)
 
 returns-2 : tie.Need-returns-2
 unfolding stepBy
-returns-2 c = rw (le-ltb 2 (c .before .before .args .extras) (c .if1 .left)) refl
+returns-2 c = rw (le-ltb 0 (c .before .before .args .place) (c .if1 .left)) refl
 
 pub step-at-spec : {M : Type 1} → statement M
 step-at-spec = tie.close (tie.spec add-byte-at byte-at-requires returns returns-2)

@@ -5,12 +5,13 @@ use Prim.Native.Nat.{_<_}
 use native.Mathlib.Omega.{arith}
 use lib.ListN.{getD, List·getD-eq-default}
 use denote.Ref.{now}
-use Rattle.descriptor.specs.Rows.{classes}
+use Rattle.descriptor.specs.Rows.{classes, classOf}
 use Rattle.descriptor.proofs.TableRows.{class-small}
 use Rattle.descriptor.proofs.rows.class_of.Statement.{statement}
 use Rattle.descriptor.proofs.rows.class_of.Tie as tie
 
 class-lt : (c : tie.Then1) → let a = c .before .args in getD (now (a .table)) (a .id) 0 < 10
+unfolding classOf
 class-lt c = rw (c .before .pre) (class-small (c .before .args .id))
 
 element-copy-out-result : tie.Need-element-copy-out-result
@@ -20,9 +21,11 @@ cast-result : tie.Need-cast-result
 cast-result c = omega (arith, class-lt (c .before))
 
 returns : tie.Need-returns
+unfolding classOf
 returns c = (rw (c .before .before .pre) refl, class-lt (c .before))
 
 returns-2 : tie.Need-returns-2
+unfolding classOf
 returns-2 c = (sym (List·getD-eq-default classes 0 (c .if1 .left)), omega arith)
 
 pub class-of-spec : {M : Type 1} → statement M

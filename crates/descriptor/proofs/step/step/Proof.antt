@@ -11,7 +11,7 @@ use borrow.Author.Tests.{lt-ltb, le-ltb, eq-eqb, ne-eqb}
 use Rattle.rules.specs.Parameter.{rowOf}
 use Rattle.rules.specs.Descriptor.{byteAt, entryAt, overruns, lengthChecks, decodeAt}
 use Rattle.rules.proofs.Rows.{row-least}
-use Rattle.descriptor.specs.Rows.{leastIn}
+use Rattle.descriptor.specs.Rows.{cell}
 use Rattle.descriptor.proofs.TableRows.{row}
 use Rattle.descriptor.proofs.Chain.{pass, stop}
 use Rattle.descriptor.proofs.step.step.Statement.{statement}
@@ -30,9 +30,16 @@ one c =
 length-lt : (c : tie.After-shared-slice-known2) → let g = c .before .before .before .args in getD (now (g .s)) (g .at + 1) 0 < 256
 length-lt c = let g = c .before .before .before .args in c .shared-slice-known2 .given (g .at + 1) .fits
 
--- the least Length of the row that was found
-least : (c : tie.After-row-of) → let g = c .before .before .before .before .before .before .args in leastIn (c .row-of .result) ≡ rowOf (byteAt (now (g .s)) (g .at)) .least
-least c = let g = c .before .before .before .before .before .before .args in ap (λ (n : ℕ). leastIn n) (c .row-of .ensures) ∙ row (byteAt (now (g .s)) (g .at)) .least
+-- the least Length of the class that was found
+least : (c : tie.After-class-of) → let b = c .before .before .before .before .before .before in cell (now (b .args .rows)) (c .class-of .result) 2 ≡ rowOf (byteAt (now (b .args .s)) (b .args .at)) .least
+least c =
+    let b = c .before .before .before .before .before .before in
+    rw (b .pre .table-is, c .class-of .ensures .0) (row (byteAt (now (b .args .s)) (b .args .at)) .least)
+
+least-small : (c : tie.After-class-of) → let b = c .before .before .before .before .before .before in cell (now (b .args .rows)) (c .class-of .result) 2 < 256
+least-small c =
+    let b = c .before .before .before .before .before .before in
+    rw (b .pre .table-is, c .class-of .ensures .0) (row (byteAt (now (b .args .s)) (b .args .at)) .least-small)
 
 add-if1 : tie.Need-add-if1
 add-if1 c = search needs
@@ -59,31 +66,42 @@ returns-2 c =
     let g = c .before .before .before .before .args in
     stop _ _ _ _ (rw (more (c .before .before), lt-ltb (length (now (g .s)) - g .at) (byteAt (now (g .s)) (g .at + 1)) (omega (arith, c .if2 .taken))) refl)
 
-shared-slice-read-row-of : tie.Need-shared-slice-read-row-of
-shared-slice-read-row-of c = search needs
+shared-slice-read-class-of : tie.Need-shared-slice-read-class-of
+shared-slice-read-class-of c = search needs
 
-row-of-requires : tie.Need-row-of-requires
-row-of-requires c κs = search needs
+class-of-requires : tie.Need-class-of-requires
+class-of-requires c κs = c .before .before .before .before .before .pre .classes-is
+
+mul-if3 : tie.Need-mul-if3
+mul-if3 c = omega (arith, c .class-of .ensures .1)
+
+index-1-if3 : tie.Need-index-1-if3
+index-1-if3 c = c .class-of .ensures .1
+
+index-2-if3 : tie.Need-index-2-if3
+index-2-if3 c = omega arith
 
 cast-if3 : tie.Need-cast-if3
-cast-if3 c = search needs
+cast-if3 c = record { fits = omega (arith, least-small (c .before)) }
 
 add-if3 : tie.Need-add-if3
-add-if3 c = search needs
+add-if3 c = record { fits = omega (arith, least-small (c .before), c .before .before .before .before .before .before .before .pre .mask-top) }
 
 returns-3 : tie.Need-returns-3
 unfolding decodeAt lengthChecks
-returns-3 c = let k = c .before in pass _ _ _ _ (one (k .before .before)) (rw (← least k) (stop _ _ _ _ (lt-ltb _ _ (c .if3 .taken))))
+returns-3 c = let k = c .before .before in pass _ _ _ _ (one (k .before .before)) (rw (← least k) (stop _ _ _ _ (lt-ltb _ _ (c .if3 .taken))))
 
 content-requires : tie.Need-content-requires
 content-requires c κs =
-    let k = c .before in
+    let k = c .before .before in
     let b = k .before .before .before .before .before .before in
     record {
-      row-is = k .row-of .ensures;
+      table-is = b .pre .table-is;
+      class-is = k .class-of .ensures .0;
+      class-top = k .class-of .ensures .1;
       mask-low = b .pre .mask-low;
       mask-top = b .pre .mask-top;
-      room = omega (arith, c .if3 .left, least k, row-least (byteAt (now (b .args .s)) (b .args .at)), k .before .before .if2 .left);
+      room = let q = rw (b .pre .table-is) at (c .if3 .left) in omega (arith, q, rw (b .pre .table-is) at (least k), row-least (byteAt (now (b .args .s)) (b .args .at)), k .before .before .if2 .left);
       short = b .pre .short;
       number = b .pre .number;
       sum = b .pre .sum;
@@ -91,7 +109,7 @@ content-requires c κs =
 
 returns-4 : tie.Need-returns-4
 unfolding decodeAt lengthChecks
-returns-4 c = let e = c .before in let k = e .before in pass _ _ _ _ (one (k .before .before)) (rw (← least k) (pass _ _ _ _ (le-ltb _ _ (e .if3 .left)) (c .content .ensures)))
+returns-4 c = let e = c .before in let k = e .before .before in pass _ _ _ _ (one (k .before .before)) (rw (← least k) (pass _ _ _ _ (le-ltb _ _ (e .if3 .left)) (c .content .ensures)))
 
 pub step-spec : {M : Type 1} → statement M
 step-spec =
@@ -104,8 +122,11 @@ step-spec =
     cast-length
     add-if2
     returns-2
-    shared-slice-read-row-of
-    row-of-requires
+    shared-slice-read-class-of
+    class-of-requires
+    mul-if3
+    index-1-if3
+    index-2-if3
     cast-if3
     add-if3
     returns-3

@@ -14,11 +14,11 @@ shared-slice-read-result c = c .before .before .pre (c .before .if1 .taken)
 
 returns : tie.Need-returns
 unfolding stepBy
-returns c = rw (lt-ltb 2 (c .before .before .args .extras) (c .before .if1 .taken)) refl
+returns c = rw (lt-ltb 0 (c .before .before .args .place) (c .before .if1 .taken)) refl
 
 returns-2 : tie.Need-returns-2
 unfolding stepBy
-returns-2 c = rw (le-ltb 2 (c .before .args .extras) (c .if1 .left)) refl
+returns-2 c = rw (le-ltb 0 (c .before .args .place) (c .if1 .left)) refl
 
 pub step-in-spec : {M : Type 1} → statement M
 step-in-spec = tie.close (tie.spec add-result shared-slice-read-result returns returns-2)
