@@ -31,9 +31,8 @@ use Rattle.rules.proofs.PlaceCalls.{space-in-set, space-held}
 use Rattle.rules.proofs.Steps.{judge-10, step-refused}
 use Rattle.rules.proofs.Orders.{bank-order-refused, bank-order-accepted}
 use Rattle.descriptor.specs.declared.Covered.the-variants.{Nothing as noEntry, Refused as notCovered}
-use Rattle.descriptor.specs.declared.Shape.{Shape}
-use Rattle.descriptor.specs.Find.{shapeOf}
 use Rattle.descriptor.specs.Cover.{coverOf}
+use Rattle.descriptor.proofs.TableRows.{parts-few, width-narrow}
 use Rattle.descriptor.proofs.Covers.{Covering, cover-refused, cover-none}
 use Rattle.control_set.specs.Gate.{Opened, Reached, ByteGated, byteRefused}
 use Rattle.control_set.specs.declared.gate.Byte.{Byte}
@@ -73,7 +72,7 @@ module _ (count : ℕ) (first last : List ℕ) (size s k : ℕ) (h : sized count
       let (ok, past) = cover-none count first last k q in
       bank-order-accepted count first last ok size rest l ∙ t (rw (le-ltb k (lengthOf m s) (past s)) (and-no (isSet s)))
 
-  module _ {inRO : Bool} {n id o : ℕ} (c : Covering count first last k inRO n id o) where
+  module _ {inRO : Bool} {n o parts width : ℕ} (c : Covering count first last k inRO n o parts width) where
     byte-is : (isSet s && ltb k (lengthOf (mapOf count first last) s)) ≡ (isSet s && not (isStaged s && inRO))
     byte-is = rw (space-in-set count first last (c .ok) s n k (c .there) (c .low) (c .top), c .side) refl
 
@@ -84,18 +83,13 @@ module _ (count : ℕ) (first last : List ℕ) (size s k : ℕ) (h : sized count
         → bankOrder count first last size rest ≡ refuses (plain 10)
     byte-10 x rest t = bank-order-accepted count first last (c .ok) size rest l ∙ t (byte-is ∙ x)
 
-    pub byte-small : (o ≤ k) × (k < 256)
+    pub byte-small : (o ≤ k) × (k < 256) × (parts < 16) × (width < 16)
     byte-small =
         let z : entry m n .offset ≡ o = c .offset-is in
-        (omega (arith, c .low), omega (arith, c .top, entry-fits count first last (c .ok) n (c .there)))
+        (omega (arith, c .low), omega (arith, c .top, entry-fits count first last (c .ok) n (c .there)), rw (← c .parts-is) (parts-few (entry m n)), rw (← c .width-is) (width-narrow (entry m n)))
 
-    pub byte-has :
-        {z : Shape}
-        → z ≡ shapeOf id
-        → (isSet s && not (isStaged s && inRO)) ≡ true
-        → Reached count first last size s k (ltb (k - o) (z .parts * z .width))
-    unfolding partsOf widthOf
-    byte-has {z} q x =
+    pub byte-has : (isSet s && not (isStaged s && inRO)) ≡ true → Reached count first last size s k (ltb (k - o) (parts * width))
+    byte-has x =
         let (a, b) = and₂ (isSet s) (not (isStaged s && inRO)) (from-true x) in
         let (a′, d) = and₂ (isSet s) (ltb k (lengthOf m s)) (from-true (byte-is ∙ x)) in
         let held : n < heldBy m s = space-held count first last (c .ok) s n k (c .there) (c .low) (c .top) (rw (c .side) (is-false (isStaged s && inRO) b)) in
@@ -105,7 +99,7 @@ module _ (count : ℕ) (first last : List ℕ) (size s k : ℕ) (h : sized count
           isSet = ltb→lt s 3 a;
           low = ltb→lt _ _ d;
           top = byte-small .1;
-          bits = λ y. rw (q, ← c .offset-is, ← c .id-is) (space-bits m (map-good count first last (c .ok)) s k n (ltb→lt s 3 a) held (c .low) (c .top) y);
+          bits = λ y. rw (← c .offset-is, ← c .parts-is, ← c .width-is) (space-bits m (map-good count first last (c .ok)) s k n (ltb→lt s 3 a) held (c .low) (c .top) y);
         }
 
 -- the ways out of a byte call

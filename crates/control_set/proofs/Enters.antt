@@ -30,9 +30,9 @@ use Rattle.rules.proofs.Orders.{bank-order-accepted}
 use Rattle.descriptor.specs.declared.Found.{Found}
 use Rattle.descriptor.specs.declared.Found.the-variants.{In as isIn, Refused as notFound}
 use Rattle.descriptor.specs.declared.Named.{Named}
-use Rattle.descriptor.specs.Find.{InMap, mostBy, acceptedBy, toldOrder, foundOf}
+use Rattle.descriptor.specs.Find.{InMap, acceptedBy, toldOrder, foundOf}
 use Rattle.descriptor.proofs.Accepts.{named-accepts}
-use Rattle.descriptor.proofs.Finds.{id-is, side-is, offset-is, parts-is, width-is, most-is, step-is, found-stops, found-9, found-8, found-in}
+use Rattle.descriptor.proofs.Finds.{id-is, side-is, offset-is, parts-is, width-is, signed-is, step-is, found-stops, found-9, found-8, found-in}
 use Rattle.control_set.specs.Field.{Spot, InBits, bitsAt, withBits}
 use Rattle.control_set.specs.Values.{Ranged, numberBy}
 use Rattle.control_set.specs.Gate.{Opened, Entered, EntryGated, refusedOf}
@@ -86,11 +86,11 @@ module _ (count : ℕ) (first last : List ℕ) (b : Bank) {e : ℕ} {f : Named} 
   pub ranged : Ranged f
   ranged = rw (← t .named .is) (named-ranged (not (isRW n e)) (entry n e))
 
-  accepts-is : (v : ℤ) → acceptedBy f v ≡ accepts (entry (mapOf count first last) e) v
-  accepts-is v = ap (λ (x : Named). acceptedBy x v) (sym (t .named .is)) ∙ named-accepts (not (isRW n e)) (entry n e) v
+  accepts-is : {s p i : ℕ} → Field (mapOf count first last) s e p i → (v : ℤ) → acceptedBy f v ≡ accepts (entry (mapOf count first last) e) v
+  accepts-is x v = ap (λ (y : Named). acceptedBy y v) (sym (t .named .is)) ∙ named-accepts (not (isRW n e)) (entry n e) v (omega (arith, x .part))
 
-  pub value-tested : (v : ℤ) → not (accepts (entry (mapOf count first last) e) v) ≡ not (acceptedBy f v)
-  value-tested v = ap not (sym (accepts-is v))
+  pub value-tested : {s p i : ℕ} → Field (mapOf count first last) s e p i → (v : ℤ) → not (accepts (entry (mapOf count first last) e) v) ≡ not (acceptedBy f v)
+  value-tested x v = ap not (sym (accepts-is x v))
 
   has : (p i : ℕ) → hasField (mapOf count first last) e p i ≡ (ltb p (f .parts) && isLane i)
   has p i = rw (lt-ltb e (length (n .entries)) (t .named .there), (parts-is count first last (t .named))) refl
@@ -119,11 +119,10 @@ module _ (count : ℕ) (first last : List ℕ) (b : Bank) {e : ℕ} {f : Named} 
   pub number-there :
       {s p i : ℕ}
       → Field (mapOf count first last) s e p i
-      → numberBy (f .most) (bitsAt b s (f .offset) p (f .width) i) ≡ numberIn (mapOf count first last) b s e p i
+      → numberBy (f .signed) (bitsAt b s (f .offset) p (f .width) i) ≡ numberIn (mapOf count first last) b s e p i
   number-there {s} {p} {i} x =
-      let w : Width (widthOf (entry n e)) = rw (width-is count first last (t .named)) at (spot-there x .whole) in
-      rw ((most-is count first last (t .named)), (offset-is count first last (t .named)), (width-is count first last (t .named)))
-      (number-named (entry n e) (bitsAt b s (entry n e .offset) p (widthOf (entry n e)) i) w (bits-at-lt b s (entry n e .offset) p (widthOf (entry n e)) i)
+      rw ((signed-is count first last (t .named)), (offset-is count first last (t .named)), (width-is count first last (t .named)))
+      (number-named (entry n e) (bitsAt b s (entry n e .offset) p (widthOf (entry n e)) i) (bits-at-lt b s (entry n e .offset) p (widthOf (entry n e)) i)
       ∙ number-field n b s e p i (entry n e) refl (widthOf (entry n e)) refl (signedOf (entry n e)) refl)
 
   pub stored-there :
@@ -167,7 +166,7 @@ module _ (count : ℕ) (first last : List ℕ) (b : Bank) {e : ℕ} {f : Named} 
   value-bits x v h =
       let r = spot-room (spot-there x) in
       rw (width-is count first last (t .named))
-      (accepted-byte (entry n e) v (rw (width-is count first last (t .named)) at (spot-there x .whole)) (rw (width-is count first last (t .named)) at (r .some)) (from-true (sym (accepts-is v) ∙ h)))
+      (accepted-byte (entry n e) v (rw (width-is count first last (t .named)) at (spot-there x .whole)) (rw (width-is count first last (t .named)) at (r .some)) (from-true (sym (accepts-is x v) ∙ h)))
 
 -- 11
 module _ (count : ℕ) (first last : List ℕ) {size e : ℕ} {f : Named} (t : Entered count first last size e f) where
@@ -248,9 +247,9 @@ module _ (count : ℕ) (first last : List ℕ) (b : Bank) (e i : ℕ) where
       unfolding rowOf widthOf
       width-12 = width-is count first last (t .named) ∙ ap (λ (j : ℕ). rowOf j .width) is-12
 
-      most-12 : f .most ≡ pos 127
-      unfolding rowOf widthOf signedOf
-      most-12 = most-is count first last (t .named) ∙ ap (λ (j : ℕ). mostBy (rowOf j .width) (rowOf j .signed)) is-12
+      signed-12 : f .signed ≡ true
+      unfolding rowOf signedOf
+      signed-12 = signed-is count first last (t .named) ∙ ap (λ (j : ℕ). rowOf j .signed) is-12
 
       field : Field (mapOf count first last) 2 e 0 i
       field = publish-there count first last b t 0 i (rw parts-12 (is-true _ (and₂ (eqb (f .id) 0x12) (isLane i) (from-true h) .1)))
@@ -258,9 +257,9 @@ module _ (count : ℕ) (first last : List ℕ) (b : Bank) (e i : ℕ) where
       pub weight-spot : Spot b 2 (f .offset) 0 8 i
       weight-spot = rw width-12 at (spot-there count first last b t field)
 
-      pub weight-is : number (weightOf (f .step) (numberBy (pos 127) (bitsAt b 2 (f .offset) 0 8 i))) ≡ weightCall count first last b e i
+      pub weight-is : number (weightOf (f .step) (numberBy true (bitsAt b 2 (f .offset) 0 8 i))) ≡ weightCall count first last b e i
       unfolding weightCall
       weight-is =
-          let z : numberBy (pos 127) (bitsAt b 2 (f .offset) 0 8 i) ≡ numberIn (mapOf count first last) b 2 e 0 i
-          = rw (most-12, width-12) at (number-there count first last b t field) in
+          let z : numberBy true (bitsAt b 2 (f .offset) 0 8 i) ≡ numberIn (mapOf count first last) b 2 e 0 i
+          = rw (signed-12, width-12) at (number-there count first last b t field) in
           rw (order, h, step-is count first last (t .named)) (ap (λ v. number (weightOf (entry (mapOf count first last) e .step) v)) z)

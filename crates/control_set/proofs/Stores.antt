@@ -29,6 +29,7 @@ module _ (count : ℕ) (first last : List ℕ) (b : Bank) {e : ℕ} {f : Named} 
 
   pub call-stores :
       (c : Call) (s p i : ℕ) (v : ℤ)
+      → Field (mapOf count first last) s e p i
       → exists (mapOf count first last) c ≡ true
       → misdirected (mapOf count first last) c ≡ false
       → unaccepted (mapOf count first last) c ≡ not (accepts (entry (mapOf count first last) e) v)
@@ -36,10 +37,10 @@ module _ (count : ℕ) (first last : List ℕ) (b : Bank) {e : ℕ} {f : Named} 
       → bankDoes (mapOf count first last) c b ≡ (saysYes, withNumber (mapOf count first last) b s e p i v)
       → bankStep count first last c b ≡ (cond (acceptedBy f v) saysYes (refused (plain 12)), storeOf b s f p i v)
   unfolding storeOf
-  call-stores c s p i v h l u q d = go (acceptedBy f v) refl
+  call-stores c s p i v w h l u q d = go (acceptedBy f v) refl
     where
       tested : (x : Bool) → acceptedBy f v ≡ x → unaccepted (mapOf count first last) c ≡ not x
-      tested x y = u ∙ value-tested count first last b t v ∙ ap not y
+      tested x y = u ∙ value-tested count first last b t w v ∙ ap not y
 
       go : (x : Bool) → acceptedBy f v ≡ x
           → bankStep count first last c b

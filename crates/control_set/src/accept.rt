@@ -9,11 +9,11 @@ pub fn accepts(f: Named, value: i64) -> bool
     requires { ⌜ Ranged f ⌝ }
     ensures { λ r. ⌜ r ≡ acceptedBy f value ⌝ }
 {
-    if (f.least <= value) & (value <= f.most) {
-        if f.width == 8 {
-            return true;
+    if (f.low <= value) & (value <= f.high) {
+        if f.coded {
+            return (f.codes >> (value as usize)) & 1 == 1;
         }
-        return (f.listed >> (value as usize)) & 1 == 1;
+        return true;
     }
     false
 }

@@ -6,7 +6,6 @@ use descriptor::cover;
 use descriptor::find;
 use descriptor::limits;
 use descriptor::load;
-use descriptor::shape_of;
 use rules::BANK_SIZE;
 use rules::Loaded;
 use rules::Refusal;
@@ -85,14 +84,14 @@ pub fn admit_byte(
         Covered::By {
             ro: in_ro,
             number: _,
-            id,
             offset: start,
+            parts,
+            width,
         } => {
             if !((set < 3) & !((set < 2) & in_ro)) {
                 return Byte::Refused(Refusal::Plain(10));
             }
-            let shape = shape_of(id);
-            Byte::Has(offset - start < shape.parts * shape.width)
+            Byte::Has(offset - start < parts * width)
         }
     }
 }

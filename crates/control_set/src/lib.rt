@@ -194,7 +194,7 @@ pub fn read(
         return Answer::Refused(Refusal::Plain(11));
     }
     let bits = read_field(bank, set, f.offset, part, f.width, lane);
-    Answer::Number(number_of(f.most, bits))
+    Answer::Number(number_of(f.signed, bits))
 }
 
 // A call that names a byte, refused by the gate.
@@ -369,5 +369,5 @@ pub fn weight(count: usize, rw: &[u8], ro: &[u8], bank: &[u8], entry: usize, lan
         return Answer::Refused(Refusal::Plain(10));
     }
     let bits = read_field(bank, 2, f.offset, 0, 8, lane);
-    Answer::Number(weight_of(f.step, number_of(127, bits)))
+    Answer::Number(weight_of(f.step, number_of(true, bits)))
 }

@@ -12,12 +12,12 @@ pub fn wide(x: u8) -> i64
     x as i64
 }
 
-// The number that a field's bits stand for, given the most that it holds: above that they stand for a negative one.
-pub fn number_of(most: i64, bits: u8) -> i64
-    ensures { λ r. ⌜ r ≡ numberBy most bits ⌝ }
+// The number that a field's bits stand for. Only fields of 8 bits hold signed numbers.
+pub fn number_of(signed: bool, bits: u8) -> i64
+    ensures { λ r. ⌜ r ≡ numberBy signed bits ⌝ }
 {
     let number = wide(bits);
-    if most < number {
+    if signed & (128 <= bits) {
         return number - 256;
     }
     number

@@ -107,7 +107,7 @@ returns-4 c =
     let g = s .args in
     let (x, y) = rw (plain s) at (t .store .ensures) in
     meets
-    (call-stores (g .count) (now (g .rw)) (now (g .ro)) (now (g .bank)) (entered k) (Call.Publish (g .entry) (g .part) (g .lane) (g .value)) 2 (g .part) (g .lane) (g .value) (there (e .before .before)) (may e) refl refl refl)
+    (call-stores (g .count) (now (g .rw)) (now (g .ro)) (now (g .bank)) (entered k) (Call.Publish (g .entry) (g .part) (g .lane) (g .value)) 2 (g .part) (g .lane) (g .value) (field e) (there (e .before .before)) (may e) refl refl refl)
     (rw (sym x ∙ not-true _ (c .if3 .taken)) refl)
     y
 
@@ -124,7 +124,7 @@ returns-5 c =
     let g = s .args in
     let (x, y) = rw (plain s) at (t .store .ensures) in
     meets
-    (call-stores (g .count) (now (g .rw)) (now (g .ro)) (now (g .bank)) (entered k) (Call.Publish (g .entry) (g .part) (g .lane) (g .value)) 2 (g .part) (g .lane) (g .value) (there (e .before .before)) (may e) refl refl refl)
+    (call-stores (g .count) (now (g .rw)) (now (g .ro)) (now (g .bank)) (entered k) (Call.Publish (g .entry) (g .part) (g .lane) (g .value)) 2 (g .part) (g .lane) (g .value) (field e) (there (e .before .before)) (may e) refl refl refl)
     (rw (sym x ∙ not-false _ (c .if3 .left)) refl)
     y
 

@@ -3,8 +3,6 @@ use borrow.Author.Needs.{needs}
 use mathlib.Core.Path.{_≡_, refl, ap, _∙_}
 use mathlib.Core.Bool.{true, false}
 use lib.ListN.{length}
-use mir.Syntax.{w64}
-use mir.Val.{toZ, ofZ}
 use mir.Facts.{toZ-ofZ}
 use denote.Ref.{now}
 use borrow.Author.Tests.{not-true, not-false}
@@ -50,10 +48,6 @@ field c =
     let g = k .before .before .before .before .before .before .before .args in
     read-there (g .count) (now (g .rw)) (now (g .ro)) (now (g .bank)) (entered k) (g .set) (g .part) (g .lane) (not-false _ (c .before .before .if1 .left)) (c .if2 .left)
 
--- the most that it holds, as the machine hands it on
-most : (c : tie.After-struct-told) → let x = c .before .before .before .before .before .before .before .found .given .0 .0 in toZ w64 (ofZ w64 (x .most)) ≡ x .most
-most c = search needs
-
 admit-entry-requires : tie.Need-admit-entry-requires
 admit-entry-requires c κs = search needs
 
@@ -98,12 +92,12 @@ number-of-requires c κs = search needs
 returns-4 : tie.Need-returns-4
 unfolding unaccepted bankPlan bankDoes
 returns-4 c =
-    let f = c .before .before in
+    let f = c .before in
     let e = f .before in
     let k = e .before .before .before .before in
     let g = k .before .before .before .before .before .before .before .args in
     let t = entered k in
-    let x = rw (most (c .before), f .read-field .ensures) at (c .number-of .ensures) in
+    let x = rw (f .read-field .ensures) at (c .number-of .ensures) in
     let n = toZ-ofZ (record { sfits = c .number-of .ok }) ∙ x ∙ number-there (g .count) (now (g .rw)) (now (g .ro)) (now (g .bank)) t (field e) in
     meets (call-done (g .count) (now (g .rw)) (now (g .ro)) (Call.Read (g .set) (g .entry) (g .part) (g .lane)) (now (g .bank)) (entered-opened (g .count) (now (g .rw)) (now (g .ro)) (now (g .bank)) t) (there (e .before .before)) (may e) refl refl) (ap Answer.Number n) refl .0
 

@@ -3,7 +3,6 @@ use borrow.Author.Needs.{needs}
 use mathlib.Core.Path.{_≡_, ap, _∙_}
 use mathlib.Core.Bool.{true}
 use native.Mathlib.Omega.{arith}
-use lib.IntN.{pos}
 use lib.ListN.{length}
 use mir.Syntax.{w64}
 use mir.Val.{toZ, ofZ}
@@ -15,7 +14,7 @@ use Rattle.control_set.specs.Field.{bitsAt}
 use Rattle.control_set.specs.Values.{numberBy}
 use Rattle.control_set.proofs.Spots.{bits-at-lt}
 use Rattle.control_set.proofs.Signs.{number-bits}
-use Rattle.control_set.proofs.Values.{number-weighed}
+use Rattle.control_set.proofs.Values.{number-byte}
 use Rattle.control_set.specs.Gate.{Entered, EntryGated}
 use Rattle.control_set.proofs.Enters.{weight-unfound, weight-10, weight-spot, weight-is}
 use Rattle.control_set.proofs.weight.Statement.{statement}
@@ -34,8 +33,8 @@ entered c = rw (c .before .found .given .1) at (gated (c .before .before .before
 numbered : (c : tie.After-number-of) →
     let k = c .before .before .before .before in
     let g = k .before .before .before .before .before .before .before .args in
-    toZ w64 (ofZ w64 (c .number-of .result)) ≡ numberBy (pos 127) (bitsAt (now (g .bank)) 2 (k .before .found .given .0 .0 .offset) 0 8 (g .lane))
-numbered c = toZ-ofZ (record { sfits = c .number-of .ok }) ∙ c .number-of .ensures ∙ ap (numberBy (pos 127)) (c .before .read-field .ensures)
+    toZ w64 (ofZ w64 (c .number-of .result)) ≡ numberBy true (bitsAt (now (g .bank)) 2 (k .before .found .given .0 .0 .offset) 0 8 (g .lane))
+numbered c = toZ-ofZ (record { sfits = c .number-of .ok }) ∙ c .number-of .ensures ∙ ap (numberBy true) (c .before .read-field .ensures)
 
 admit-entry-requires : tie.Need-admit-entry-requires
 admit-entry-requires c κs = search needs
@@ -75,7 +74,7 @@ weight-of-requires c κs =
     let k = c .before .before .before .before in
     let g = k .before .before .before .before .before .before .before .args in
     let n = bits-at-lt (now (g .bank)) 2 (k .before .found .given .0 .0 .offset) 0 8 (g .lane) in
-    rw (numbered c, number-weighed _ n) (number-bits true 8 _ (omega arith) n)
+    rw (numbered c, number-byte _ n) (number-bits true 8 _ (omega arith) n)
 
 returns-3 : tie.Need-returns-3
 returns-3 c =

@@ -7,8 +7,7 @@ use lib.Signed.{leZ}
 use mir.Syntax.{w64}
 use mir.Val.{toZ, ofZ}
 use mir.Facts.{toZ-ofZ}
-use borrow.Author.Tests.{eq-eqb, ne-eqb}
-use Rattle.descriptor.specs.Find.{acceptedBy}
+use Rattle.descriptor.specs.Find.{acceptedIn}
 use Rattle.control_set.proofs.Values.{Bit, code-bit, codes-bit}
 use Rattle.control_set.proofs.accept.accepts.Statement.{statement}
 use Rattle.control_set.proofs.accept.accepts.Tie as tie
@@ -17,45 +16,45 @@ use Rattle.control_set.proofs.accept.accepts.Tie as tie
 plain : (c : tie.Start) → toZ w64 (ofZ w64 (c .args .value)) ≡ c .args .value
 plain c = toZ-ofZ (c .fits .value)
 
-least : (c : tie.After-struct-told2) → toZ w64 (ofZ w64 (c .before .before .before .before .args .f .least)) ≡ c .before .before .before .before .args .f .least
+least : (c : tie.After-struct-told2) → toZ w64 (ofZ w64 (c .before .before .before .before .args .f .low)) ≡ c .before .before .before .before .args .f .low
 least c = search needs
 
-most : (c : tie.After-struct-told2) → toZ w64 (ofZ w64 (c .before .before .before .before .args .f .most)) ≡ c .before .before .before .before .args .f .most
+most : (c : tie.After-struct-told2) → toZ w64 (ofZ w64 (c .before .before .before .before .args .f .high)) ≡ c .before .before .before .before .args .f .high
 most c = search needs
 
-within : (c : tie.Then1) → let a = c .before .before .before .before .before .args in (leZ (a .f .least) (a .value) && leZ (a .value) (a .f .most)) ≡ true
+within : (c : tie.Then1) → let a = c .before .before .before .before .before .args in (leZ (a .f .low) (a .value) && leZ (a .value) (a .f .high)) ≡ true
 within c = let t = c .before in rw (plain (t .before .before .before .before), least t, most t) at (c .if1 .taken)
 
--- a code of fewer bits than 8
-code : (c : tie.Else2) → Bit (c .before .before .before .before .before .before .before .args .value)
+-- a code
+code : (c : tie.Then2) → Bit (c .before .before .before .before .before .before .args .value)
 code c =
-    let s = c .before .before .before .before .before .before .before in
-    let h = ne-eqb (s .args .f .width) 8 (c .if2 .left) in
-    code-bit (s .args .value) (rw (s .pre .least h, s .pre .most h) at (within (c .before .before)))
-
-returns : tie.Need-returns
-unfolding acceptedBy
-returns c = rw (within (c .before .before), eq-eqb _ 8 (c .if2 .taken)) refl
+    let s = c .before .before .before .before .before .before in
+    let h = c .if2 .taken in
+    code-bit (s .args .value) (rw (s .pre .low h, s .pre .high h) at (within (c .before)))
 
 cast-result : tie.Need-cast-result
-cast-result c = rw (plain (c .before .before .before .before .before .before .before)) (code c .low, record { fits = omega (arith, code c .top) })
+cast-result c = rw (plain (c .before .before .before .before .before .before)) (code c .low, record { fits = omega (arith, code c .top) })
 
 shr-result : tie.Need-shr-result
-shr-result c = rw (plain (c .before .before .before .before .before .before .before .before)) (code (c .before) .top)
+shr-result c = rw (plain (c .before .before .before .before .before .before .before)) (code (c .before) .top)
+
+returns : tie.Need-returns
+unfolding acceptedIn
+returns c =
+    let e = c .before in
+    let s = e .before .before .before .before .before .before in
+    rw (plain s, within (e .before), e .if2 .taken) (codes-bit (s .args .f .codes) (s .args .value) (code e .low))
 
 returns-2 : tie.Need-returns-2
-unfolding acceptedBy
-returns-2 c =
-    let e = c .before in
-    let s = e .before .before .before .before .before .before .before in
-    rw (plain s, within (e .before .before), ne-eqb _ 8 (e .if2 .left)) (codes-bit (s .args .f .listed) (s .args .value) (code e .low))
+unfolding acceptedIn
+returns-2 c = rw (within (c .before), c .if2 .left) refl
 
 returns-3 : tie.Need-returns-3
-unfolding acceptedBy
+unfolding acceptedIn
 returns-3 c =
     let t = c .before in
     let h = rw (plain (t .before .before .before .before), least t, most t) at (c .if1 .left) in
     rw h refl
 
 pub accepts-spec : {M : Type 1} → statement M
-accepts-spec = tie.close (tie.spec returns cast-result shr-result returns-2 returns-3)
+accepts-spec = tie.close (tie.spec cast-result shr-result returns returns-2 returns-3)

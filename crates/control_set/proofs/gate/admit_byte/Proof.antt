@@ -4,7 +4,7 @@ use mathlib.Core.Path.{_≡_, sym, _∙_}
 use mathlib.Core.Bool.{true}
 use native.Mathlib.Nat.{mul-le-mul}
 use native.Mathlib.Omega.{arith}
-use Prim.Native.Nat.{_≤_}
+use Prim.Native.Nat.{_≤_, _<_}
 use denote.Ref.{now}
 use borrow.Author.Tests.{not-true, not-false}
 use Rattle.rules.specs.Load.{sized}
@@ -23,11 +23,11 @@ fine c = sym (c .before .limits .ensures) ∙ not-false _ (c .if1 .left)
 covering : (c : tie.After-known-told2) →
     let g = c .before .before .before .before .before .before .before .before .before .args in
     let x = c .before .covered2 .given .0 in
-    Covering (g .count) (now (g .rw)) (now (g .ro)) (g .offset) (x .0) (x .1 .0) (x .1 .1 .0) (x .1 .1 .1 .0)
+    Covering (g .count) (now (g .rw)) (now (g .ro)) (g .offset) (x .0) (x .1 .0) (x .1 .1 .0) (x .1 .1 .1 .0) (x .1 .1 .1 .1 .0)
 covering c =
     let k = c .before .before .before in
     let g = k .before .before .before .before .before .before .args in
-    cover-one (g .count) (now (g .rw)) (now (g .ro)) (g .offset) _ _ _ _ (sym (k .cover .ensures) ∙ c .before .covered2 .given .1)
+    cover-one (g .count) (now (g .rw)) (now (g .ro)) (g .offset) _ _ _ _ _ (sym (k .cover .ensures) ∙ c .before .covered2 .given .1)
 
 limits-requires : tie.Need-limits-requires
 limits-requires c κs = search needs
@@ -57,23 +57,25 @@ returns-3 c =
     let g = e .before .before .before .before .before .args in
     byte-10 (g .count) (now (g .rw)) (now (g .ro)) (g .size) (g .set) (g .offset) (fine (e .before)) (omega (arith, size-is, e .if2 .left)) (covering t) (not-true _ (c .if3 .taken))
 
-shape-of-requires : tie.Need-shape-of-requires
-shape-of-requires c κs = search needs
-
-sub-t26 : tie.Need-sub-t26
-sub-t26 c =
-    let t = c .before .before in
+small : (c : tie.Else3) →
+    let x = c .before .before .covered2 .given .0 in
+    let g = c .before .before .before .before .before .before .before .before .before .before .args in
+    (x .1 .1 .0 ≤ g .offset) × (g .offset < 256) × (x .1 .1 .1 .0 < 16) × (x .1 .1 .1 .1 .0 < 16)
+small c =
+    let t = c .before in
     let e = t .before .before .before .before in
     let g = e .before .before .before .before .before .args in
-    byte-small (g .count) (now (g .rw)) (now (g .ro)) (g .size) (g .set) (g .offset) (fine (e .before)) (omega (arith, size-is, e .if2 .left)) (covering t) .0
+    byte-small (g .count) (now (g .rw)) (now (g .ro)) (g .size) (g .set) (g .offset) (fine (e .before)) (omega (arith, size-is, e .if2 .left)) (covering t)
+
+sub-t26 : tie.Need-sub-t26
+sub-t26 c = small c .0
 
 mul-t27 : tie.Need-mul-t27
 mul-t27 c =
-    let parts = c .before .shape-of .ensures .1 in
-    let width = c .before .shape-of .ensures .2 in
-    let x : c .before .shape-of .result .parts ≤ 15 = omega arith in
-    let y : c .before .shape-of .result .width ≤ 15 = omega arith in
-    omega (arith, mul-le-mul x y)
+    let x = c .before .before .covered2 .given .0 in
+    let u : x .1 .1 .1 .0 ≤ 15 = omega (arith, small c) in
+    let v : x .1 .1 .1 .1 .0 ≤ 15 = omega (arith, small c) in
+    omega (arith, mul-le-mul u v)
 
 returns-4 : tie.Need-returns-4
 returns-4 c =
@@ -91,11 +93,10 @@ returns-5 c =
 
 returns-6 : tie.Need-returns-6
 returns-6 c =
-    let h = c .before in
-    let t = h .before .before in
+    let t = c .before in
     let e = t .before .before .before .before in
     let g = e .before .before .before .before .before .args in
-    byte-has (g .count) (now (g .rw)) (now (g .ro)) (g .size) (g .set) (g .offset) (fine (e .before)) (omega (arith, size-is, e .if2 .left)) (covering t) (h .shape-of .ensures .0) (not-false _ (h .before .if3 .left))
+    byte-has (g .count) (now (g .rw)) (now (g .ro)) (g .size) (g .set) (g .offset) (fine (e .before)) (omega (arith, size-is, e .if2 .left)) (covering t) (not-false _ (c .if3 .left))
 
 pub admit-byte-spec : {M : Type 1} → statement M
 admit-byte-spec =
@@ -109,7 +110,6 @@ admit-byte-spec =
     enum-told
     enum-known-covered-2
     returns-3
-    shape-of-requires
     sub-t26
     mul-t27
     returns-4
