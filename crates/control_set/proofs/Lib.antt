@@ -9,7 +9,8 @@ pub mod Stores
 pub mod ByteWays
 pub mod Leasts
 pub mod Copies
-pub mod Passed
+pub mod Judges
+pub mod Lists
 pub mod Applies
 pub mod Performed
 pub mod Whole

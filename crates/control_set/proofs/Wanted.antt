@@ -7,7 +7,7 @@ use Prim.Native.Nat.{ℕ, zero, suc, _+_, _-_, _*_, _/_, _%_, _^_, _≤_, _<_}
 use native.Mathlib.Nat.{div-eq-of-lt}
 use native.Mathlib.Omega.{arith}
 use native.Mathlib.Decide.{ℕ-discrete}
-use lib.Pow.{pow-pos, ones-split, ones-lt, high, shl-exact, shl-shr}
+use lib.Pow.{pow-pos, shl-exact, shl-shr}
 use lib.Bits.{bitAnd, bitOr}
 use borrow.Author.Tests.{not-false}
 use lib.Dec.{T, eqb, eqb→eq}
@@ -16,16 +16,16 @@ use Rattle.rules.specs.Descriptor.{isApp}
 use Rattle.rules.specs.Layout.{appSelAt}
 use Rattle.rules.specs.Refuse.{chooses}
 use Rattle.rules.specs.Bank.{Bank, appSelIn, loop}
-use Rattle.rules.proofs.Lanes.{Width}
+use Rattle.rules.proofs.Lanes.{Width, lane-room}
 use Rattle.rules.proofs.Tests.{and₂, and₃, from-true, is-true, both-true, or-cases, or-yes, or-no, and-no}
 use Rattle.control_set.specs.declared.plan.Chosen.{Chosen}
 use Rattle.control_set.specs.declared.plan.Fields.{Fields}
 use Rattle.control_set.specs.Field.{bitsAt}
-use Rattle.control_set.specs.Plan.{Asked, Spread, Wants, Clear, Least, joinedBy, copiesBy, lacksBy, badAt, badIn, copyLane, copyPart, copyEntry}
+use Rattle.control_set.specs.Plan.{Asked, Spread, CodesLow, Wants, Clear, Least, acceptsEvery, joinedBy, copiesBy, lacksBy, badAt, badIn, copyLane, copyPart, copyEntry}
 use Rattle.control_set.proofs.Copies.{Kept, app-outside}
 use Rattle.descriptor.proofs.Bits.{and-bit, or-bit}
-use Rattle.control_set.proofs.Signs.{few-bits}
 use Rattle.control_set.proofs.Spots.{bits-at-lt}
+use Rattle.control_set.proofs.Judges.{every-accepted}
 use Rattle.control_set.proofs.Leasts.{app-range, least-top}
 
 own-bit : (k : ℕ) → k < 63 → bitOf (1 * 2 ^ k % 2 ^ 64) k ≡ true
@@ -123,38 +123,19 @@ module _ (c : Chosen) (f : Fields) (b : Bank) (none : (i : ℕ) → 1 ≤ i → 
   unfolding copyEntry copyPart copyLane
   none-copied-entry x = loop-still (f .parts) _ x (λ p y hp. loop-still 8 _ y (λ j z hj. rw (none (suc j) (omega arith) (omega arith)) refl))
 
--- a field of 8 bits holds no other number
-byte-fine : (c : Chosen) (f : Fields) (b : Bank) (top : ℕ) → f .width ≡ 8 → 1 ≤ top → Least top top (badIn c f b)
-unfolding badIn badAt
-byte-fine c f b top e l = least-top top _ l (λ i a h. any-none-of (f .parts) _ (λ p. rw e (and-no (copiesBy c (f .mask) b i))))
-
--- every code is a bit of the mask of all
-every-bit : (m n : ℕ) → n < m → bitOf (2 ^ m - 1) n ≡ true
-every-bit m n h = go (m - n) (omega arith) (omega arith)
-  where
-    odd : (j : ℕ) → 0 < j → eqb ((2 ^ j - 1) % 2) 1 ≡ true
-    odd zero l = absurd (omega arith)
-    odd (suc j) l = let z : (2 ^ suc j - 1) % 2 ≡ 1 = omega (arith, pow-pos j) in rw z refl
-
-    go : (j : ℕ) → j + n ≡ m → 0 < j → bitOf (2 ^ m - 1) n ≡ true
-    go j e l = rw (← e, ones-split j n, high (2 ^ j - 1) n (ones-lt n)) (odd j l)
-
--- a field that accepts every code holds no other
-pub codes-fine :
+-- an entry that accepts every number holds no other
+pub every-fine :
     (c : Chosen) (f : Fields) (b : Bank) (top : ℕ)
-    → f .listed ≡ 2 ^ (2 ^ f .width) - 1
+    → CodesLow f
+    → f .width ≤ 8
+    → acceptsEvery f ≡ true
     → 1 ≤ top
     → Least top top (badIn c f b)
 unfolding badIn badAt
-codes-fine c f b top e l =
+every-fine c f b top low few e l =
     least-top top _ l
     (λ i a h. any-none-of (f .parts) _ (λ p.
-    rw (e, every-bit (2 ^ f .width) (bitsAt b (c .set) (f .offset) p (f .width) i) (bits-at-lt b (c .set) (f .offset) p (f .width) i)) (fine (copiesBy c (f .mask) b i) (eqb (f .width) 8))))
-  where
-    fine : (t w : Bool) → (t && not (w || true)) ≡ false
-    fine true true = refl
-    fine true false = refl
-    fine false w = refl
+    rw (every-accepted f (bitsAt b (c .set) (f .offset) p (f .width) i) few (bits-at-lt b (c .set) (f .offset) p (f .width) i) low e) (and-no (copiesBy c (f .mask) b i))))
 
 -- an entry that is passed over, and one that is not
 pub passed-over :
@@ -163,25 +144,19 @@ pub passed-over :
     → Wants c b 9 apps
     → 1 ≤ top
     → top ≤ 9
-    → (eqb (f .parts) 0 || (eqb (bitAnd (f .mask) apps) 0 || eqb (f .width) 8)) ≡ true
+    → (eqb (f .parts) 0 || eqb (bitAnd (f .mask) apps) 0) ≡ true
     → Least top top (badIn c f b)
 unfolding badIn
 passed-over {c} {b} f apps top a w l u h = first (or-cases (eqb (f .parts) 0) _ (from-true h))
   where
-    next : T (eqb (bitAnd (f .mask) apps) 0) ⊎ T (eqb (f .width) 8) → Least top top (badIn c f b)
-    next (inl z) = none-bad c f b (none-copied a apps w (f .mask) (eqb→eq _ 0 z)) top l u
-    next (inr z) = byte-fine c f b top (eqb→eq _ 8 z) l
-
-    first : T (eqb (f .parts) 0) ⊎ T (eqb (bitAnd (f .mask) apps) 0 || eqb (f .width) 8) → Least top top (badIn c f b)
+    first : T (eqb (f .parts) 0) ⊎ T (eqb (bitAnd (f .mask) apps) 0) → Least top top (badIn c f b)
     first (inl z) = least-top top _ l (λ i _ _. any-empty (f .parts) _ (eqb→eq (f .parts) 0 z))
-    first (inr z) = next (or-cases (eqb (bitAnd (f .mask) apps) 0) (eqb (f .width) 8) z)
+    first (inr z) = none-bad c f b (none-copied a apps w (f .mask) (eqb→eq _ 0 z)) top l u
 
-pub looked-at : (f : Fields) (apps : ℕ) → Spread f → (eqb (f .parts) 0 || (eqb (bitAnd (f .mask) apps) 0 || eqb (f .width) 8)) ≡ false → Width (f .width) × (f .width ≤ 4)
+pub looked-at : (f : Fields) (apps : ℕ) → Spread f → (eqb (f .parts) 0 || eqb (bitAnd (f .mask) apps) 0) ≡ false → f .width ≤ 8
 looked-at f apps s q =
-    let (x, y) = or-no (eqb (f .parts) 0) _ q in
-    let z = or-no (eqb (bitAnd (f .mask) apps) 0) (eqb (f .width) 8) y .1 in
-    let w : Width (f .width) = s .whole (some (f .parts) x) in
-    (w, few-bits (f .width) w z)
+    let w : Width (f .width) = s .whole (some (f .parts) (or-no (eqb (f .parts) 0) _ q .0)) in
+    omega (arith, lane-room (f .width) w 1 (omega arith))
   where
     some : (n : ℕ) → eqb n 0 ≡ false → 0 < n
     some zero h = let o : _≡_ {A = ℕ} 0 1 = cc in absurd (omega arith)

@@ -1,22 +1,23 @@
 -- Apply in an entry's numbers: which lanes it copies, which it finds bad, and the copy, field by field.
 use mathlib.Core.Path.{_≡_}
 use mathlib.Core.Bool.{Bool, true, false, _&&_, _||_, not, cond}
-use mathlib.Core.List.{List}
+use mathlib.Core.List.{List, []}
 use Prim.Native.Nat.{ℕ, suc, _+_, _-_, _*_, _%_, _^_, _≤_, _<_}
 use lib.Bits.{bitOr}
-use lib.Dec.{eqb}
+use lib.Dec.{eqb, leb}
+use lib.IntN.{ℤ, pos, negsuc, _-ℤ_}
+use lib.Signed.{leZ}
 use lib.ListN.{length, getD, set}
 use Rattle.rules.specs.declared.Entry.{Entry}
 use Rattle.rules.specs.Descriptor.{isApp, hasApp}
 use Rattle.rules.specs.Numbers.{bitOf, any}
-use Rattle.rules.specs.Load.{rwEntries}
-use Rattle.rules.specs.Place.{nothing, partsOf, widthOf}
+use Rattle.rules.specs.Parameter.{rowOf}
+use Rattle.rules.specs.Place.{partsOf, widthOf, signedOf}
 use Rattle.rules.specs.Layout.{bankSize, setStart}
 use Rattle.rules.specs.Refuse.{chooses}
 use Rattle.rules.specs.Bank.{Bank, appSelIn, loop}
-use Rattle.rules.specs.Demands.{Accepted}
 use Rattle.rules.proofs.Lanes.{Width}
-use Rattle.descriptor.specs.Find.{listedOf}
+use Rattle.descriptor.specs.Find.{lowIn, highIn, hasCodes, listedOf, acceptedIn}
 use Rattle.control_set.specs.declared.plan.Chosen.{Chosen}
 use Rattle.control_set.specs.declared.plan.Fields.{Fields}
 use Rattle.control_set.specs.Field.{bitsAt, withBits}
@@ -27,26 +28,55 @@ pub record Asked (c : Chosen) (b : Bank) : Type 0 where
   pub staged : c .set < 2
   pub size : bankSize ≤ length b
 
--- the RW string of strings that load, and how many entries it has
-pub record Listed (count : ℕ) (first : List ℕ) (n : ℕ) : Type 0 where
-  pub last : List ℕ
-  pub ok : Accepted count first last
-  pub all : length (rwEntries count first) ≡ n
-
 -- the fields of an entry, in a set's 256 bytes
 pub record Spread (f : Fields) : Type 0 where
   pub whole : 0 < f .parts → Width (f .width)
   pub inside : f .offset + f .parts * f .width ≤ 256
 
+-- codes are numbers of 4 bits
+abbrev pub CodesLow : Fields → Type 0
+CodesLow f = f .coded ≡ true → (f .low ≡ pos 0) × (f .high ≡ pos 15)
+
+-- what apply needs of an entry
 abbrev pub fieldsOf : Entry → Fields
 fieldsOf e =
     record {
       mask = e .mask;
-      listed = listedOf e;
       offset = e .offset;
       parts = partsOf e;
       width = widthOf e;
+      signed = signedOf e;
+      low = lowIn (rowOf (e .id) .values);
+      high = highIn (rowOf (e .id) .values);
+      coded = hasCodes (rowOf (e .id) .codesAt);
+      codes = listedOf e;
     }
+
+-- the same by its line, column by column
+abbrev pub fieldsBy : List ℕ → Fields
+fieldsBy line =
+    record {
+      mask = getD line 0 0;
+      offset = getD line 1 0;
+      parts = getD line 2 0;
+      width = getD line 3 0;
+      signed = eqb (getD line 4 0) 1;
+      low = pos 0 -ℤ pos (getD line 5 0);
+      high = pos (getD line 6 0);
+      coded = eqb (getD line 7 0) 1;
+      codes = getD line 8 0;
+    }
+
+-- a line of numbers of 16 bits
+pub record Narrow (line : List ℕ) : Type 0 where
+  pub cell : (k : ℕ) → getD line k 0 < 0x10000
+
+-- the lines of n entries
+pub record Listed (n : ℕ) (list : List (List ℕ)) : Type 0 where
+  pub few : n ≤ 30
+  pub narrow : (i : ℕ) → i < n → Narrow (getD list i [])
+  pub spread : (i : ℕ) → i < n → Spread (fieldsBy (getD list i []))
+  pub codes : (i : ℕ) → i < n → CodesLow (fieldsBy (getD list i []))
 
 -- k is the lowest lane below `top` at which f is true; `top` where there is none
 pub record Least (top k : ℕ) (f : ℕ → Bool) : Type 0 where
@@ -75,17 +105,29 @@ abbrev pub joinedBy : Chosen → Bank → ℕ → ℕ → ℕ
 joinedBy c b i apps =
     cond (chooses (c .lanes) i && isApp (c .count) (appSelIn b (c .set) i)) (bitOr apps (1 * 2 ^ (appSelIn b (c .set) i - 1) % 2 ^ 64)) apps
 
+-- the number that a field's bits stand for: those of a signed one are 8
+abbrev pub bitsNumber : Bool → ℕ → ℤ
+bitsNumber signed n = cond (signed && leb 128 n) (pos n -ℤ pos 256) (pos n)
+
+abbrev pub acceptsBits : Fields → ℕ → Bool
+acceptsBits f n = acceptedIn (f .low) (f .high) (f .coded) (f .codes) (bitsNumber (f .signed) n)
+
+-- every number of a field's bits is accepted: from low to high lie those of a byte, if signed, or of the width, and codes have a bit each
+abbrev pub spansEvery : Fields → Bool
+spansEvery f = cond (f .signed) (leZ (f .low) (negsuc 127) && leZ (pos 127) (f .high)) (leZ (f .low) (pos 0) && leZ (pos (2 ^ f .width - 1)) (f .high))
+
+abbrev pub acceptsEvery : Fields → Bool
+acceptsEvery f = spansEvery f && (not (f .coded) || eqb (f .codes) (2 ^ (2 ^ f .width) - 1))
+
 -- 14: of a field, of an entry, of a list of entries
 unfoldable pub badAt : Chosen → Fields → Bank → ℕ → ℕ → Bool
-badAt c f b p i =
-    copiesBy c (f .mask) b i
-    && not (eqb (f .width) 8 || bitOf (f .listed) (bitsAt b (c .set) (f .offset) p (f .width) i))
+badAt c f b p i = copiesBy c (f .mask) b i && not (acceptsBits f (bitsAt b (c .set) (f .offset) p (f .width) i))
 
 unfoldable pub badIn : Chosen → Fields → Bank → ℕ → Bool
 badIn c f b i = any (f .parts) λ p. badAt c f b p i
 
-unfoldable pub badAmong : Chosen → List Entry → Bank → ℕ → Bool
-badAmong c l b i = any (length l) λ e. badIn c (fieldsOf (getD l e nothing)) b i
+unfoldable pub badAmong : Chosen → ℕ → List (List ℕ) → Bank → ℕ → Bool
+badAmong c n list b i = any n λ e. badIn c (fieldsBy (getD list e [])) b i
 
 -- the copy: of a field, a part, an entry, a list of entries; the staged set is read from the bank b₀
 unfoldable pub copyLane : Chosen → Fields → Bank → ℕ → ℕ → Bank → Bank
@@ -98,8 +140,8 @@ copyPart c f b₀ p = loop 8 (λ j. copyLane c f b₀ p (suc j))
 unfoldable pub copyEntry : Chosen → Fields → Bank → Bank → Bank
 copyEntry c f b₀ = loop (f .parts) (λ p. copyPart c f b₀ p)
 
-unfoldable pub copyAmong : Chosen → List Entry → Bank → Bank → Bank
-copyAmong c l b₀ = loop (length l) (λ e. copyEntry c (fieldsOf (getD l e nothing)) b₀)
+unfoldable pub copyAmong : Chosen → ℕ → List (List ℕ) → Bank → Bank → Bank
+copyAmong c n list b₀ = loop n (λ e. copyEntry c (fieldsBy (getD list e [])) b₀)
 
 -- the copy of every lane of an entry, byte by byte
 abbrev pub byteCopied : ℕ → Fields → Bank → ℕ → Bank → Bank

@@ -2,12 +2,10 @@
 ghost use mathlib.Core.Path.{_≡_};
 ghost use Prim.Native.Nat.{_^_, _≤_, _<_};
 ghost use lib.ListN.{length, getD, set};
-ghost use Rattle.rules.specs.Load.{rwEntries};
 ghost use Rattle.rules.specs.Layout.{bankSize};
 ghost use Rattle.rules.specs.Bank.{merge};
 ghost use Rattle.control_set.specs.Field.{Room, Spot, bitsAt, withBits};
 ghost use Rattle.control_set.specs.Plan.{Asked, Listed, Spread, Wants, Clear, lacksBy, copyLane, copyPart, copyEntry, copyAmong, bytesCopied};
-ghost use Rattle.descriptor.specs.Rows.{Tables};
 use crate::bank::byte_of;
 use crate::bank::place_of;
 use crate::bank::read_field;
@@ -16,9 +14,6 @@ use crate::plan::Chosen;
 use crate::plan::Fields;
 use crate::plan::copies;
 use crate::plan::fields_at;
-use descriptor::Mark;
-use descriptor::advance;
-use descriptor::mask_bytes;
 use rules::ACTIVE_END;
 use rules::ACTIVE_START;
 
@@ -120,28 +115,16 @@ fn copy_chosen(chosen: Chosen, apps: usize, f: Fields, bank: &mut [u8])
     copy_entry(chosen, f, bank);
 }
 
-// All RW entries.
-pub fn copy_all(
-    classes: &[u8; 19],
-    rows: &[u32; 10],
-    values: &[u32; 10],
-    chosen: Chosen,
-    apps: usize,
-    rw: &[u8],
-    entries: usize,
-    bank: &mut [u8],
-)
-    requires { ⌜ Tables (now classes) (now rows) (now values) × Listed (chosen .count) (now rw) entries ⌝ }
+// The entries of a list.
+pub fn copy_all(chosen: Chosen, apps: usize, list: &[[u16; 9]; 30], entries: usize, bank: &mut [u8])
+    requires { ⌜ Listed entries (now list) ⌝ }
     requires { ⌜ Asked chosen (now bank) × Wants chosen (now bank) 9 apps × Clear 9 (lacksBy chosen (now bank)) ⌝ }
-    ensures { λ _. ⌜ now (bank .exit) ≡ copyAmong chosen (rwEntries (chosen .count) (now (rw .entry))) (now (bank .entry)) (now (bank .entry)) ⌝ }
+    ensures { λ _. ⌜ now (bank .exit) ≡ copyAmong chosen entries (now (list .entry)) (now (bank .entry)) (now (bank .entry)) ⌝ }
 {
-    let a = mask_bytes(chosen.count);
     let mut number = 0;
-    let mut mark = Mark { at: 0, sum: 0 };
     while number < entries {
-        let f = fields_at(classes, rows, values, a, rw, mark.at, mark.sum);
+        let f = fields_at(list, number);
         copy_chosen(chosen, apps, f, bank);
         number += 1;
-        mark = advance(a, rw, mark);
     }
 }

@@ -39,9 +39,8 @@ use crate::plan::lowest_lacking;
 use crate::plan::wanted;
 use descriptor::Found;
 use descriptor::Named;
-use descriptor::table::CLASSES;
-use descriptor::table::ROWS;
-use descriptor::table::VALUES;
+use descriptor::entries;
+use descriptor::limits;
 use rules::Answer;
 use rules::BANK_SIZE;
 use rules::Call;
@@ -291,14 +290,21 @@ pub fn apply(count: usize, rw: &[u8], ro: &[u8], bank: &mut [u8], set: usize, la
     ensures answer { λ r. ⌜ r ≡ bankStep count (now (rw .entry)) (now (ro .entry)) (Call.Apply set lanes) (now (bank .entry)) .0 ⌝ }
     ensures after { λ _. ⌜ now (bank .exit) ≡ bankStep count (now (rw .entry)) (now (ro .entry)) (Call.Apply set lanes) (now (bank .entry)) .1 ⌝ }
 {
-    let g = admit(count, rw, ro, bank.len());
-    match g {
-        Gate::Refused(r) => Answer::Refused(r),
-        Gate::Open {
-            rw: entries,
-            ro: _,
-            staged: _,
-            active: _,
+    if !limits(count, rw, ro) {
+        return Answer::Refused(Refusal::Plain(9));
+    }
+    if bank.len() < BANK_SIZE {
+        return Answer::Refused(Refusal::Plain(8));
+    }
+    let mut list = [[0; 9]; 30];
+    let loaded = entries(count, rw, ro, &mut list);
+    match loaded {
+        Loaded::Refused(r) => Answer::Refused(r),
+        Loaded::Accepted {
+            rw_count,
+            ro_count: _,
+            staged_length: _,
+            active_length: _,
         } => {
             if 2 < set {
                 return Answer::Refused(Refusal::Plain(10));
@@ -311,15 +317,12 @@ pub fn apply(count: usize, rw: &[u8], ro: &[u8], bank: &mut [u8], set: usize, la
             if lacking != 9 {
                 return Answer::Refused(Refusal::AtLane(13, lacking));
             }
-            let classes = CLASSES;
-            let rows = ROWS;
-            let values = VALUES;
             let apps = wanted(chosen, bank);
-            let bad = lowest_bad(&classes, &rows, &values, chosen, apps, rw, entries, bank);
+            let bad = lowest_bad(chosen, apps, &list, rw_count, bank);
             if bad != 9 {
                 return Answer::Refused(Refusal::AtLane(14, bad));
             }
-            copy_all(&classes, &rows, &values, chosen, apps, rw, entries, bank);
+            copy_all(chosen, apps, &list, rw_count, bank);
             Answer::Yes
         }
     }

@@ -1,23 +1,25 @@
 // The host's plan, at apply: 13 and 14, each with the lowest lane that it holds of.
 ghost use mathlib.Core.Path.{_≡_};
 ghost use Prim.Native.Nat.{_-_, _^_, _≤_, _<_};
+ghost use mathlib.Core.List.{[]};
+ghost use lib.IntN.{pos};
 ghost use lib.ListN.{length, getD};
-ghost use Rattle.rules.specs.Descriptor.{isApp, hasApp, highFirst, entryAt};
-ghost use Rattle.rules.specs.Load.{rwEntries};
+ghost use Rattle.rules.specs.Descriptor.{isApp, hasApp};
 ghost use Rattle.rules.specs.Layout.{bankSize};
 ghost use Rattle.rules.specs.Refuse.{chooses};
 ghost use Rattle.rules.specs.Bank.{appSelIn};
-ghost use Rattle.descriptor.specs.Rows.{Tables, classes as classTable};
-ghost use Rattle.control_set.specs.Plan.{Asked, Listed, Spread, Wants, joinedBy, fieldsOf, copiesBy, lacksBy, badAt, badIn, badAmong, Least};
+ghost use Rattle.control_set.specs.Plan.{Asked, Narrow, Listed, Spread, CodesLow, Wants, joinedBy, fieldsBy, bitsNumber, acceptsBits, spansEvery, acceptsEvery, copiesBy, lacksBy, badAt, badIn, badAmong, Least};
 use crate::bank::app_sel_at;
 use crate::bank::read_field;
-use descriptor::Mark;
-use descriptor::advance;
-use descriptor::byte_from;
-use descriptor::listed_from;
-use descriptor::mask_bytes;
-use descriptor::pair_from;
-use descriptor::shape_in;
+use descriptor::columns::BELOW;
+use descriptor::columns::CODED;
+use descriptor::columns::CODES;
+use descriptor::columns::HIGH;
+use descriptor::columns::MASK;
+use descriptor::columns::OFFSET;
+use descriptor::columns::PARTS;
+use descriptor::columns::SIGNED;
+use descriptor::columns::WIDTH;
 
 // What apply is asked: the count, a staged set, and lanes, bit i − 1 for lane i.
 pub struct Chosen {
@@ -26,60 +28,36 @@ pub struct Chosen {
     pub lanes: u8,
 }
 
-// What apply needs of an entry: its application mask, its accepted codes, and where its fields lie.
+// What apply needs of an entry: its application mask, where its fields lie, whether their numbers are signed, and the accepted
+// numbers, from low to high and, where there is a code mask, those with a bit in `codes`.
 pub struct Fields {
     pub mask: usize,
-    pub listed: usize,
     pub offset: usize,
     pub parts: usize,
     pub width: usize,
+    pub signed: bool,
+    pub low: i64,
+    pub high: i64,
+    pub coded: bool,
+    pub codes: usize,
 }
 
-// An application mask of a bytes.
-fn mask_at(a: usize, s: &[u8], at: usize) -> usize
-    requires { ⌜ (1 ≤ a) × (a ≤ 2) ⌝ }
-    ensures { λ r. ⌜ r ≡ highFirst (now (s .entry)) at a ⌝ }
+// By its line in a list.
+pub fn fields_at(list: &[[u16; 9]; 30], entry: usize) -> Fields
+    requires { ⌜ (entry < 30) × Narrow (getD (now list) entry []) ⌝ }
+    ensures { λ r. ⌜ r ≡ fieldsBy (getD (now (list .entry)) entry []) ⌝ }
 {
-    if a == 1 {
-        return byte_from(s, at);
-    }
-    pair_from(s, at)
-}
-
-// The class of an ID, by the lent table.
-fn class_of(classes: &[u8; 19], id: usize) -> usize
-    requires { ⌜ now classes ≡ classTable ⌝ }
-    ensures { λ r. ⌜ (r ≡ getD classTable id 0) × (r < 10) ⌝ }
-{
-    if id < 19 {
-        return classes[id] as usize;
-    }
-    0
-}
-
-// The entry at a place of a string, with its offset in a set.
-pub fn fields_at(
-    classes: &[u8; 19],
-    rows: &[u32; 10],
-    values: &[u32; 10],
-    a: usize,
-    s: &[u8],
-    at: usize,
-    offset: usize,
-) -> Fields
-    requires { ⌜ Tables (now classes) (now rows) (now values) ⌝ }
-    requires { ⌜ (1 ≤ a) × (a ≤ 2) × (at ≤ 120) ⌝ }
-    ensures { λ r. ⌜ r ≡ fieldsOf (entryAt a (now (s .entry)) at offset) ⌝ }
-{
-    let class = class_of(classes, byte_from(s, at));
-    let row = rows[class];
-    let shape = shape_in(row);
+    let line = list[entry];
     Fields {
-        mask: mask_at(a, s, at + 2),
-        listed: listed_from(row, values[class], s, at + 4 + a),
-        offset,
-        parts: shape.parts,
-        width: shape.width,
+        mask: line[MASK] as usize,
+        offset: line[OFFSET] as usize,
+        parts: line[PARTS] as usize,
+        width: line[WIDTH] as usize,
+        signed: line[SIGNED] == 1,
+        low: 0 - (line[BELOW] as i64),
+        high: line[HIGH] as i64,
+        coded: line[CODED] == 1,
+        codes: line[CODES] as usize,
     }
 }
 
@@ -175,23 +153,49 @@ pub fn wanted(chosen: Chosen, bank: &[u8]) -> usize
     apps
 }
 
+// The number that a field's bits stand for. A signed one has 8 bits: from 128 on it is a negative number.
+fn number_in(signed: bool, bits: u8) -> i64
+    ensures { λ r. ⌜ r ≡ bitsNumber signed bits ⌝ }
+{
+    let number = bits as i64;
+    if signed & (128 <= bits) {
+        return number - 256;
+    }
+    number
+}
+
+// Whether a field of an entry accepts the number that its bits stand for.
+fn fits_entry(f: Fields, bits: u8) -> bool
+    requires { ⌜ CodesLow f ⌝ }
+    ensures { λ r. ⌜ r ≡ acceptsBits f bits ⌝ }
+{
+    let number = number_in(f.signed, bits);
+    if (f.low <= number) & (number <= f.high) {
+        if f.coded {
+            return (f.codes >> (number as usize)) & 1 == 1;
+        }
+        return true;
+    }
+    false
+}
+
 // 14: whether a field is to be copied and holds a value not accepted.
 fn is_bad(chosen: Chosen, f: Fields, part: usize, lane: usize, bank: &[u8]) -> bool
-    requires { ⌜ Asked chosen (now bank) × Spread f ⌝ }
-    requires { ⌜ (f .width ≤ 4) × (part < f .parts) × (1 ≤ lane) × (lane ≤ 8) ⌝ }
+    requires { ⌜ Asked chosen (now bank) × Spread f × CodesLow f ⌝ }
+    requires { ⌜ (part < f .parts) × (1 ≤ lane) × (lane ≤ 8) ⌝ }
     ensures { λ r. ⌜ r ≡ badAt chosen f (now (bank .entry)) part lane ⌝ }
 {
     if copies(chosen, f.mask, lane, bank) {
         let bits = read_field(bank, chosen.set, f.offset, part, f.width, lane);
-        return (f.listed >> bits) & 1 == 0;
+        return !fits_entry(f, bits);
     }
     false
 }
 
 // The lowest lane below `top` with such a field in a part, else `top`.
 fn lowest_in_part(chosen: Chosen, f: Fields, part: usize, top: usize, bank: &[u8]) -> usize
-    requires { ⌜ Asked chosen (now bank) × Spread f ⌝ }
-    requires { ⌜ (f .width ≤ 4) × (part < f .parts) × (1 ≤ top) × (top ≤ 9) ⌝ }
+    requires { ⌜ Asked chosen (now bank) × Spread f × CodesLow f ⌝ }
+    requires { ⌜ (part < f .parts) × (1 ≤ top) × (top ≤ 9) ⌝ }
     ensures { λ r. ⌜ Least top r (badAt chosen f (now (bank .entry)) part) ⌝ }
 {
     let mut lane = 1;
@@ -213,16 +217,50 @@ fn every_code(width: usize) -> usize
     (1 << codes) - 1
 }
 
-// In an entry. A field of 8 bits holds no other, nor does one that accepts every code.
+// The highest number of a width's bits.
+fn top_of(width: usize) -> i64
+    requires { ⌜ width ≤ 8 ⌝ }
+    ensures { λ r. ⌜ r ≡ pos (2 ^ width - 1) ⌝ }
+{
+    let numbers: usize = 1 << width;
+    (numbers - 1) as i64
+}
+
+// Whether every number that the bits of an entry's fields can stand for lies from low to high.
+fn spans_all(f: Fields) -> bool
+    requires { ⌜ f .width ≤ 8 ⌝ }
+    ensures { λ r. ⌜ r ≡ spansEvery f ⌝ }
+{
+    if f.signed {
+        return (f.low <= -128) & (127 <= f.high);
+    }
+    (f.low <= 0) & (top_of(f.width) <= f.high)
+}
+
+// Whether the entry accepts every such number: where there is a code mask, all are in it too.
+fn accepts_all(f: Fields) -> bool
+    requires { ⌜ CodesLow f × (f .width ≤ 8) ⌝ }
+    ensures { λ r. ⌜ r ≡ acceptsEvery f ⌝ }
+{
+    if spans_all(f) {
+        if f.coded {
+            return f.codes == every_code(f.width);
+        }
+        return true;
+    }
+    false
+}
+
+// In an entry. One that accepts every number holds no other.
 fn lowest_in_entry(chosen: Chosen, apps: usize, f: Fields, top: usize, bank: &[u8]) -> usize
-    requires { ⌜ Asked chosen (now bank) × Spread f × Wants chosen (now bank) 9 apps ⌝ }
+    requires { ⌜ Asked chosen (now bank) × Spread f × CodesLow f × Wants chosen (now bank) 9 apps ⌝ }
     requires { ⌜ (1 ≤ top) × (top ≤ 9) ⌝ }
     ensures { λ r. ⌜ Least top r (badIn chosen f (now (bank .entry))) ⌝ }
 {
-    if (f.parts == 0) | ((f.mask & apps == 0) | (f.width == 8)) {
+    if (f.parts == 0) | (f.mask & apps == 0) {
         return top;
     }
-    if f.listed == every_code(f.width) {
+    if accepts_all(f) {
         return top;
     }
     let mut lowest = top;
@@ -234,30 +272,24 @@ fn lowest_in_entry(chosen: Chosen, apps: usize, f: Fields, top: usize, bank: &[u
     lowest
 }
 
-// In all RW entries: the lowest lane of 1 to 8, else 9.
+// In the entries of a list: the lowest lane of 1 to 8, else 9.
 pub fn lowest_bad(
-    classes: &[u8; 19],
-    rows: &[u32; 10],
-    values: &[u32; 10],
     chosen: Chosen,
     apps: usize,
-    rw: &[u8],
+    list: &[[u16; 9]; 30],
     entries: usize,
     bank: &[u8],
 ) -> usize
-    requires { ⌜ Tables (now classes) (now rows) (now values) × Listed (chosen .count) (now rw) entries ⌝ }
+    requires { ⌜ Listed entries (now list) ⌝ }
     requires { ⌜ Asked chosen (now bank) × Wants chosen (now bank) 9 apps ⌝ }
-    ensures { λ r. ⌜ Least 9 r (badAmong chosen (rwEntries (chosen .count) (now (rw .entry))) (now (bank .entry))) ⌝ }
+    ensures { λ r. ⌜ Least 9 r (badAmong chosen entries (now (list .entry)) (now (bank .entry))) ⌝ }
 {
-    let a = mask_bytes(chosen.count);
     let mut lowest = 9;
     let mut number = 0;
-    let mut mark = Mark { at: 0, sum: 0 };
     while number < entries {
-        let f = fields_at(classes, rows, values, a, rw, mark.at, mark.sum);
+        let f = fields_at(list, number);
         lowest = lowest_in_entry(chosen, apps, f, lowest, bank);
         number += 1;
-        mark = advance(a, rw, mark);
     }
     lowest
 }

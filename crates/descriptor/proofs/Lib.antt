@@ -9,6 +9,7 @@ pub mod Marks
 pub mod Locates
 pub mod Wides
 pub mod Finds
+pub mod EntryLines
 pub mod Covers
 pub mod Puts
 pub mod Lines

@@ -19,7 +19,7 @@ use Rattle.rules.specs.Demands.{Accepted}
 use Rattle.rules.proofs.Orders.{order-refused, order-accepted}
 use Rattle.rules.proofs.EntryHeads.{Head}
 use Rattle.rules.proofs.EntryParts.{entry-part, verdict-passes}
-use Rattle.descriptor.specs.declared.Mark.{Mark}
+use Rattle.descriptor.specs.declared.search.Mark.{Mark}
 use Rattle.descriptor.specs.declared.Located.{Located}
 use Rattle.descriptor.specs.declared.Located.the-variants.{At as at, Refused as nowhere}
 use Rattle.descriptor.specs.Locate.{located, locatedOf}

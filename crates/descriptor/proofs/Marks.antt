@@ -9,7 +9,6 @@ use native.Mathlib.Omega.{arith}
 use lib.ListN.{length, getD, take, length-append, List·getD-append}
 use lib.Seq.{getD-append-add, take-length}
 use lib.Dec.{leb}
-use borrow.Author.Tests.{le-leb, lt-ltb}
 use Rattle.rules.specs.declared.Entry.{Entry}
 use Rattle.rules.specs.declared.Loaded.the-variants.{Accepted as accepted}
 use Rattle.rules.specs.Descriptor.{maskBytes, byteAt}
@@ -21,8 +20,8 @@ use Rattle.rules.proofs.Good.{Good}
 use Rattle.rules.proofs.Walks.{Map-accepted, load-accepted, total-append}
 use Rattle.rules.proofs.Fills.{Filled, filled-nth, stands-start, rw-filled, ro-filled}
 use Rattle.rules.proofs.EntryHeads.{Head, filled-head, strings-short, lengths-next, total-next}
-use Rattle.descriptor.specs.declared.Mark.{Mark}
-use Rattle.descriptor.specs.Marks.{OnEntry, pastOr, markAfter, Passable}
+use Rattle.descriptor.specs.declared.search.Mark.{Mark}
+use Rattle.descriptor.specs.Marks.{OnEntry, markAfter, Passable}
 
 -- where an entry stands
 abbrev pub markOf : Entry → Mark
@@ -35,14 +34,6 @@ pub record Marked (a : ℕ) (s : List ℕ) (sum : ℕ) (l : List Entry) : Type 0
   pub stands : (n : ℕ) → n < length l → markAfter a s sum n ≡ markOf (getD l n nothing)
   pub on : (n : ℕ) → n < length l → OnEntry a s (markAfter a s sum n)
   pub ends : markAfter a s sum (length l) .sum ≡ sum + total l
-
--- one advance
-pub past-next : {a : ℕ} {s : List ℕ} {sum : ℕ} {l : List Entry} → Marked a s sum l → (n : ℕ) → n < length l → pastOr a s (markAfter a s sum n) ≡ markAfter a s sum (suc n)
-unfolding pastOr markAfter
-past-next {a} {s} {sum} {l} g n h =
-    let o = g .on n h in
-    rw (le-leb a 2 (g .mask), le-leb (markAfter a s sum n .at) 120 (o .place), le-leb (markAfter a s sum n .sum) 256 (o .space), lt-ltb (markAfter a s sum n .at + 2 + a) (length s) (o .inside))
-    refl
 
 -- the offsets of entries in a row are the sums of the MemoryLengths
 good-offset : (from : ℕ) (l : List Entry) (n : ℕ) → Good from l → n < length l → getD l n nothing .offset ≡ from + total (take n l)

@@ -6,5 +6,6 @@ pub mod Locate
 pub mod Marks
 pub mod Wide
 pub mod Find
+pub mod EntryLines
 pub mod Cover
 pub mod Text

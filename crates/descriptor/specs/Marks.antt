@@ -1,11 +1,9 @@
 -- A pass over the entries of a string that the load accepts, by their Lengths and MemoryLengths alone.
-use mathlib.Core.Bool.{Bool, _&&_, cond}
 use mathlib.Core.List.{List}
 use Prim.Native.Nat.{ℕ, zero, suc, _+_, _≤_, _<_}
 use lib.ListN.{length}
-use lib.Dec.{ltb, leb}
 use Rattle.rules.specs.Descriptor.{byteAt}
-use Rattle.descriptor.specs.declared.Mark.{Mark}
+use Rattle.descriptor.specs.declared.search.Mark.{Mark}
 
 -- past the entry at a mark: its Length further in the string, its MemoryLength further in a set
 abbrev pub past : ℕ → List ℕ → Mark → Mark
@@ -16,14 +14,6 @@ pub record OnEntry (a : ℕ) (s : List ℕ) (mark : Mark) : Type 0 where
   pub inside : mark .at + 2 + a < length s
   pub place : mark .at ≤ 120
   pub space : mark .sum ≤ 256
-
--- the numbers that a pass over an accepted string meets
-abbrev pub inRange : ℕ → Mark → Bool
-inRange a mark = leb a 2 && (leb (mark .at) 120 && leb (mark .sum) 256)
-
--- past the entry at a mark; a mark at which none can stand stays
-unfoldable pub pastOr : ℕ → List ℕ → Mark → Mark
-pastOr a s mark = cond (inRange a mark) (cond (ltb (mark .at + 2 + a) (length s)) (past a s mark) mark) mark
 
 -- past n entries, the first of which has its space at a sum
 unfoldable pub markAfter : ℕ → List ℕ → ℕ → ℕ → Mark

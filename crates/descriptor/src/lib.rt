@@ -1,19 +1,20 @@
 // Reading: the load of both descriptor strings, where an entry stands, and an entry's own bytes.
 ghost use mathlib.Core.Path.{_≡_};
 ghost use mathlib.Core.List.{_++_};
-ghost use Prim.Native.Nat.{_+_, _≤_, _<_};
+ghost use Prim.Native.Nat.{_+_, _≤_};
 ghost use lib.ListN.{length, drop};
 ghost use Rattle.rules.specs.Parameter.{rowOf};
-ghost use Rattle.rules.specs.Descriptor.{maskBytes, byteAt, highFirst};
-ghost use Rattle.rules.specs.Load.{sized, loadOf};
+ghost use Rattle.rules.specs.Descriptor.{maskBytes};
+ghost use Rattle.rules.specs.Load.{sized, loadOf, rwEntries};
 ghost use Rattle.rules.specs.MapProgram.{mapOutput};
 ghost use Rattle.rules.specs.Beside.{entryAnswer, entryBytes};
 ghost use Rattle.descriptor.specs.Locate.{locatedOf};
 ghost use Rattle.descriptor.specs.Find.{foundOf};
+ghost use Rattle.descriptor.specs.EntryLines.{listOf};
 ghost use Rattle.descriptor.specs.Cover.{coverOf};
-ghost use Rattle.descriptor.specs.Marks.{pastOr};
 
-pub mod table; // document 01's table: constant rows by ID class
+pub mod columns; // the columns of an entry's line
+mod table; // document 01's table: constant rows by ID class
 mod rows; // the row of an ID
 mod state; // what a walk keeps
 mod step; // one entry: the checks 1 to 7
@@ -22,10 +23,10 @@ mod reading; // one entry: what a call needs of it
 mod search; // an entry by its number, and by a byte of its space
 mod text; // the map program's text
 
+use crate::reading::lines_at;
 use crate::reading::named_at;
 use crate::rows::class_of;
 use crate::search::look;
-use crate::search::past;
 use crate::search::seek;
 use crate::state::into_ro;
 use crate::state::start;
@@ -44,25 +45,6 @@ use rules::Answer;
 use rules::Loaded;
 use rules::Refusal;
 use rules::Walked;
-
-// Where an entry stands in a string and in a set: its start and its offset.
-pub struct Mark {
-    pub at: usize,
-    pub sum: usize,
-}
-
-// Past the entry at a mark of either string, once the load has accepted them; a mark at which no entry can stand stays.
-pub fn advance(a: usize, s: &[u8], mark: Mark) -> Mark
-    ensures { λ r. ⌜ r ≡ pastOr a (now (s .entry)) mark ⌝ }
-{
-    if !((a <= 2) & ((mark.at <= 120) & (mark.sum <= 256))) {
-        return mark;
-    }
-    if s.len() <= mark.at + 2 + a {
-        return mark;
-    }
-    past(a, s, mark)
-}
 
 // Where an entry stands: in which string, its start and length there, and its offset in a set.
 pub enum Located {
@@ -260,6 +242,26 @@ pub fn find(count: usize, rw: &[u8], ro: &[u8], short: bool, entry: usize) -> Fo
     }
 }
 
+// The load, and the line of each RW entry in a lent list, entry n at index n; refused, the list stays. An entry has at least 4 bytes,
+// so a string of 120 has at most 30.
+pub fn entries(count: usize, rw: &[u8], ro: &[u8], list: &mut [[u16; 9]; 30]) -> Loaded
+    ensures answer { λ r. ⌜ r ≡ loadOf count (now (rw .entry)) (now (ro .entry)) ⌝ }
+    ensures lines { λ _. ⌜ now (list .exit) ≡ listOf (loadOf count (now (rw .entry)) (now (ro .entry))) (rwEntries count (now (rw .entry))) (now (list .entry)) ⌝ }
+{
+    let loaded = load(count, rw, ro);
+    let Loaded::Accepted {
+        rw_count,
+        ro_count: _,
+        staged_length: _,
+        active_length: _,
+    } = loaded
+    else {
+        return loaded;
+    };
+    lines_at(mask_bytes(count), rw, rw_count, list);
+    loaded
+}
+
 // The entry whose space covers a byte of a set: the string that it stands in, its number, and where its fields lie.
 pub enum Covered {
     By {
@@ -372,22 +374,4 @@ pub fn mask_bytes(count: usize) -> usize
         return 1;
     }
     2
-}
-
-// A byte of a string as a number, 0 past its end.
-pub fn byte_from(s: &[u8], at: usize) -> usize
-    ensures { λ r. ⌜ (r ≡ byteAt (now (s .entry)) at) × (r < 256) ⌝ }
-{
-    let byte = byte_at(s, at);
-    byte as usize
-}
-
-// Two bytes of a string as one number, high byte first.
-pub fn pair_from(s: &[u8], at: usize) -> usize
-    ensures { λ r. ⌜ r ≡ highFirst (now (s .entry)) at 2 ⌝ }
-{
-    if at < s.len() {
-        return byte_from(s, at) * 256 + byte_from(s, at + 1);
-    }
-    0
 }

@@ -1,22 +1,47 @@
-// The reading of the one entry that a call is about: what the call needs of it. The walks read less.
+// The reading of an entry: what a call needs of the one that it names, and a line for each RW entry. The walks read less.
 ghost use mathlib.Core.Path.{_≡_};
-ghost use Prim.Native.Nat.{_≤_};
-ghost use Rattle.rules.specs.Descriptor.{entryAt};
+ghost use Prim.Native.Nat.{_≤_, _<_};
+ghost use Rattle.rules.specs.Descriptor.{byteAt, highFirst, entryAt};
 ghost use Rattle.descriptor.specs.Rows.{Tables};
 ghost use Rattle.descriptor.specs.Steps.{stepBy};
 ghost use Rattle.descriptor.specs.Wide.{codesBy};
 ghost use Rattle.descriptor.specs.Find.{namedOf};
+ghost use Rattle.descriptor.specs.Marks.{OnEntry, markAfter, Passable};
+ghost use Rattle.descriptor.specs.EntryLines.{Short, lineBy, lineAt, lines};
 use crate::Named;
-use crate::pair_from;
 use crate::rows::class_of;
+use crate::search::Mark;
+use crate::search::past;
 use crate::step::byte_at;
+use crate::table::CLASSES;
 use crate::table::CODES;
+use crate::table::FIELDS;
 use crate::table::HIGH;
+use crate::table::LISTED;
 use crate::table::LOW;
 use crate::table::PARTS;
+use crate::table::ROWS;
 use crate::table::SIGNED;
 use crate::table::STEP;
 use crate::table::WIDTH;
+
+// A byte of a string as a number, 0 past its end.
+fn byte_from(s: &[u8], at: usize) -> usize
+    ensures { λ r. ⌜ (r ≡ byteAt (now (s .entry)) at) × (r < 256) ⌝ }
+{
+    let byte = byte_at(s, at);
+    byte as usize
+}
+
+// Two bytes of a string as one number, high byte first.
+fn pair_from(s: &[u8], at: usize) -> usize
+    ensures { λ r. ⌜ (r ≡ highFirst (now (s .entry)) at 2) × (r < 0x10000) ⌝ }
+{
+    if at < s.len() {
+        return byte_from(s, at) * 256 + byte_from(s, at + 1);
+    }
+    0
+}
 
 // The step byte by its place, as the walks read it, 0 past the end of a string.
 fn step_at(place: u8, s: &[u8], from: usize) -> u8
@@ -73,5 +98,80 @@ pub fn named_at(
         coded: 0 < line[CODES],
         codes: codes_at(line[CODES], listed[class], s, from),
         step: step_at(row[STEP], s, from) as usize,
+    }
+}
+
+// An application mask of a bytes.
+fn mask_at(a: usize, s: &[u8], at: usize) -> usize
+    requires { ⌜ (1 ≤ a) × (a ≤ 2) ⌝ }
+    ensures { λ r. ⌜ (r ≡ highFirst (now (s .entry)) at a) × (r < 0x10000) ⌝ }
+{
+    if a == 1 {
+        return byte_from(s, at);
+    }
+    pair_from(s, at)
+}
+
+// An entry's line, in the order of its columns.
+fn line_of(mask: usize, f: Named) -> [u16; 9]
+    requires { ⌜ (mask < 0x10000) × Short f ⌝ }
+    ensures { λ r. ⌜ r ≡ lineBy mask f ⌝ }
+{
+    [
+        mask as u16,
+        f.offset as u16,
+        f.parts as u16,
+        f.width as u16,
+        f.signed as u16,
+        (0 - f.low) as u16,
+        f.high as u16,
+        f.coded as u16,
+        f.codes as u16,
+    ]
+}
+
+// The line of the entry at a mark of the RW string.
+fn line_at(
+    classes: &[u8; 19],
+    rows: &[[u8; 5]; 10],
+    fields: &[[u8; 6]; 10],
+    listed: &[u16; 10],
+    a: usize,
+    s: &[u8],
+    mark: Mark,
+) -> [u16; 9]
+    requires { ⌜ Tables (now classes) (now rows) (now fields) (now listed) ⌝ }
+    requires { ⌜ (1 ≤ a) × (a ≤ 2) × OnEntry a (now s) mark ⌝ }
+    ensures { λ r. ⌜ r ≡ lineAt a (now (s .entry)) mark ⌝ }
+{
+    let f = named_at(
+        classes,
+        rows,
+        fields,
+        listed,
+        false,
+        a,
+        s,
+        mark.at,
+        mark.sum,
+    );
+    line_of(mask_at(a, s, mark.at + 2), f)
+}
+
+// The lines of the first n entries of the RW string.
+pub fn lines_at(a: usize, s: &[u8], n: usize, list: &mut [[u16; 9]; 30])
+    requires { ⌜ (1 ≤ a) × (a ≤ 2) × (n ≤ 30) × Passable a (now s) 0 n ⌝ }
+    ensures { λ _. ⌜ now (list .exit) ≡ lines (λ i. lineAt a (now (s .entry)) (markAfter a (now (s .entry)) 0 i)) n (now (list .entry)) ⌝ }
+{
+    let classes = CLASSES;
+    let rows = ROWS;
+    let fields = FIELDS;
+    let listed = LISTED;
+    let mut mark = Mark { at: 0, sum: 0 };
+    let mut i = 0;
+    while i < n {
+        list[i] = line_at(&classes, &rows, &fields, &listed, a, s, mark);
+        mark = past(a, s, mark);
+        i += 1;
     }
 }

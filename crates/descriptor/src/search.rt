@@ -3,7 +3,12 @@ ghost use mathlib.Core.Path.{_≡_};
 ghost use Prim.Native.Nat.{_≤_};
 ghost use Rattle.descriptor.specs.Marks.{past as pastOf, OnEntry, markAfter, Passable};
 ghost use Rattle.descriptor.specs.Cover.{Hits};
-use crate::Mark;
+
+// Where an entry stands in a string and in a set: its start and its offset.
+pub struct Mark {
+    pub at: usize,
+    pub sum: usize,
+}
 
 // Past the entry at a mark.
 pub fn past(a: usize, s: &[u8], mark: Mark) -> Mark

@@ -1,77 +1,101 @@
 -- `apply` meets its contract: each of its tests is the rules' test of that number, and its copy is theirs.
 use borrow.Author.Needs.{needs}
-use mathlib.Core.Path.{_≡_, refl}
+use mathlib.Core.Path.{_≡_, refl, sym, _∙_}
 use mathlib.Core.Bool.{true, false}
-use Prim.Native.Nat.{_<_}
+use Prim.Native.Nat.{ℕ, _<_}
 use native.Mathlib.Omega.{arith}
 use lib.ListN.{length}
 use lib.Dec.{eqb}
 use denote.Ref.{now}
-use borrow.Author.Tests.{lt-ltb, le-ltb, eq-eqb, ne-eqb}
+use borrow.Author.Tests.{lt-ltb, le-ltb, eq-eqb, ne-eqb, not-true, not-false}
 use Rattle.rules.specs.declared.Call.{Call}
+use Rattle.rules.specs.Descriptor.{byteAt}
+use Rattle.rules.specs.Load.{sized}
 use Rattle.rules.specs.Place.{isSet}
-use Rattle.rules.proofs.Steps.{meets}
+use Rattle.rules.proofs.BankLayout.{size-is}
+use Rattle.rules.proofs.Steps.{meets, bank-order-9, bank-order-8}
+use Rattle.rules.proofs.Orders.{bank-order-refused}
 use Rattle.control_set.specs.Gate.{Opened}
 use Rattle.control_set.specs.Plan.{Asked, Listed}
 use Rattle.control_set.proofs.Ways.{call-shut}
-use Rattle.control_set.proofs.Applies.{apply-asked, apply-listed, apply-10, apply-11, apply-13, apply-14, apply-done}
+use Rattle.control_set.proofs.Lists.{list-listed}
+use Rattle.control_set.proofs.Applies.{apply-asked, apply-10, apply-11, apply-13, apply-14, apply-done}
 use Rattle.control_set.proofs.apply.Statement.{statement}
 use Rattle.control_set.proofs.apply.Tie as tie
 
+-- 9 and 8 are passed
+fine : (c : tie.Else1) → let g = c .before .before .before .before .before .args in sized (g .count) (now (g .rw)) (now (g .ro)) ≡ true
+fine c = sym (c .before .limits .ensures) ∙ not-false _ (c .if1 .left)
+
 opened : (c : tie.After-known-told2) →
-    let g = c .before .before .before .before .before .before .before .args in
-    let x = c .before .g2 .given .0 in
+    let g = c .before .before .before .before .before .before .before .before .before .before .before .args in
+    let x = c .before .loaded2 .given .0 in
     Opened (g .count) (now (g .rw)) (now (g .ro)) (length (now (g .bank))) (x .0) (x .1 .0) (x .1 .1 .0) (x .1 .1 .1 .0)
-opened c = rw (c .before .g2 .given .1) at (c .before .before .before .admit .ensures)
+opened c =
+    let e = c .before .before .before in
+    record { size-is = omega (arith, size-is, e .before .before .if2 .left); loads = sym (e .entries .ensures .0) ∙ c .before .loaded2 .given .1 }
 
--- what is passed: 10 and 11
-there : (c : tie.Else1) → isSet (c .before .before .before .before .before .before .before .before .args .set) ≡ true
-there c = lt-ltb (c .before .before .before .before .before .before .before .before .args .set) 3 (omega (arith, c .if1 .left))
-
-may : (c : tie.Else2) → eqb (c .before .before .before .before .before .before .before .before .before .args .set) 2 ≡ false
-may c = ne-eqb _ 2 (c .if2 .left)
-
-staged : (c : tie.Else2) → c .before .before .before .before .before .before .before .before .before .args .set < 2
-staged c = omega (arith, c .before .if1 .left, c .if2 .left)
-
-admit-requires : tie.Need-admit-requires
-admit-requires c κs = search needs
-
-enum-known-g : tie.Need-enum-known-g
-enum-known-g c = search needs
-
-enum-known-g-2 : tie.Need-enum-known-g-2
-enum-known-g-2 c = search needs
+limits-requires : tie.Need-limits-requires
+limits-requires c κs = search needs
 
 returns : tie.Need-returns
 returns c =
-    let u = c .before in
-    let g = u .before .before .before .before .before .before .before .args in
-    meets (apply-10 (g .count) (now (g .rw)) (now (g .ro)) (g .set) (g .lanes) (now (g .bank)) (opened u) (le-ltb (g .set) 3 (omega (arith, c .if1 .taken)))) refl refl
+    let g = c .before .before .before .before .before .args in
+    meets (call-shut (g .count) (now (g .rw)) (now (g .ro)) (Call.Apply (g .set) (g .lanes)) (now (g .bank)) _
+    (λ rest. bank-order-9 (g .count) (now (g .rw)) (now (g .ro)) rest (length (now (g .bank))) (sym (c .before .limits .ensures) ∙ not-true _ (c .if1 .taken)))) refl refl
 
 returns-2 : tie.Need-returns-2
 returns-2 c =
+    let g = c .before .before .before .before .before .before .args in
+    meets (call-shut (g .count) (now (g .rw)) (now (g .ro)) (Call.Apply (g .set) (g .lanes)) (now (g .bank)) _
+    (λ rest. bank-order-8 (g .count) (now (g .rw)) (now (g .ro)) rest (length (now (g .bank))) (fine (c .before)) (omega (arith, size-is, c .if2 .taken)))) refl refl
+
+entries-requires : tie.Need-entries-requires
+entries-requires c κs = search needs
+
+enum-known-loaded : tie.Need-enum-known-loaded
+enum-known-loaded c = search needs
+
+enum-known-loaded-2 : tie.Need-enum-known-loaded-2
+enum-known-loaded-2 c = search needs
+
+-- what is passed: 10 and 11
+there : (c : tie.Else3) → isSet (c .before .before .before .before .before .before .before .before .before .before .before .before .args .set) ≡ true
+there c = lt-ltb (c .before .before .before .before .before .before .before .before .before .before .before .before .args .set) 3 (omega (arith, c .if3 .left))
+
+may : (c : tie.Else4) → eqb (c .before .before .before .before .before .before .before .before .before .before .before .before .before .args .set) 2 ≡ false
+may c = ne-eqb _ 2 (c .if4 .left)
+
+staged : (c : tie.Else4) → c .before .before .before .before .before .before .before .before .before .before .before .before .before .args .set < 2
+staged c = omega (arith, c .before .if3 .left, c .if4 .left)
+
+returns-3 : tie.Need-returns-3
+returns-3 c =
+    let u = c .before in
+    let g = u .before .before .before .before .before .before .before .before .before .before .before .args in
+    meets (apply-10 (g .count) (now (g .rw)) (now (g .ro)) (g .set) (g .lanes) (now (g .bank)) (opened u) (le-ltb (g .set) 3 (omega (arith, c .if3 .taken)))) refl refl
+
+returns-4 : tie.Need-returns-4
+returns-4 c =
     let u = c .before .before in
-    let g = u .before .before .before .before .before .before .before .args in
-    meets (apply-11 (g .count) (now (g .rw)) (now (g .ro)) (g .set) (g .lanes) (now (g .bank)) (opened u) (there (c .before)) (eq-eqb _ 2 (c .if2 .taken))) refl refl
+    let g = u .before .before .before .before .before .before .before .before .before .before .before .args in
+    meets (apply-11 (g .count) (now (g .rw)) (now (g .ro)) (g .set) (g .lanes) (now (g .bank)) (opened u) (there (c .before)) (eq-eqb _ 2 (c .if4 .taken))) refl refl
 
 -- the bank that is asked of
-asked : (c : tie.Else2) →
-    let g = c .before .before .before .before .before .before .before .before .before .args in
+asked : (c : tie.Else4) →
+    let g = c .before .before .before .before .before .before .before .before .before .before .before .before .before .args in
     Asked (record { count = g .count; set = g .set; lanes = g .lanes }) (now (g .bank))
 asked c =
     let u = c .before .before in
-    let g = u .before .before .before .before .before .before .before .args in
+    let g = u .before .before .before .before .before .before .before .before .before .before .before .args in
     apply-asked (g .count) (now (g .rw)) (now (g .ro)) (g .set) (g .lanes) (now (g .bank)) (opened u) (staged c)
 
-listed : (c : tie.Else2) →
-    let u = c .before .before in
-    let g = u .before .before .before .before .before .before .before .args in
-    Listed (g .count) (now (g .rw)) (u .before .g2 .given .0 .0)
-listed c =
-    let u = c .before .before in
-    let g = u .before .before .before .before .before .before .before .args in
-    apply-listed (g .count) (now (g .rw)) (now (g .ro)) (g .set) (g .lanes) (now (g .bank)) (opened u)
+-- the lines that the load has written
+listed : (c : tie.After-known-told2) → Listed (c .before .loaded2 .given .0 .0) (c .before .before .before .entries .last .1 .1 .1 .0)
+listed u =
+    let k = u .before .before .before .before .before .before .before .before .before .before in
+    let g = k .before .args in
+    list-listed (g .count) (now (g .rw)) (now (g .ro)) _ _ _ _ (opened u .loads) _ _ refl (u .before .before .before .entries .ensures .1) (λ i. k .shared-slice-known .given i .fits)
 
 lowest-lacking-requires : tie.Need-lowest-lacking-requires
 lowest-lacking-requires c κs = asked (c .before)
@@ -79,71 +103,72 @@ lowest-lacking-requires c κs = asked (c .before)
 same-length : tie.Need-same-length
 same-length c = search needs
 
-returns-3 : tie.Need-returns-3
-returns-3 c =
+returns-5 : tie.Need-returns-5
+returns-5 c =
     let k = c .before in
     let e = k .before .before in
     let u = e .before .before in
-    let g = u .before .before .before .before .before .before .before .args in
-    meets (apply-13 (g .count) (now (g .rw)) (now (g .ro)) (g .set) (g .lanes) (now (g .bank)) (opened u) (there (e .before)) (may e) (k .lowest-lacking .ensures) (c .if3 .taken)) refl refl
+    let g = u .before .before .before .before .before .before .before .before .before .before .before .args in
+    meets (apply-13 (g .count) (now (g .rw)) (now (g .ro)) (g .set) (g .lanes) (now (g .bank)) (opened u) (there (e .before)) (may e) (k .lowest-lacking .ensures) (c .if5 .taken)) refl refl
 
 wanted-requires : tie.Need-wanted-requires
 wanted-requires c κs = asked (c .before .before .before .before)
 
 lowest-bad-requires : tie.Need-lowest-bad-requires
 lowest-bad-requires c κs =
-    let w = c .before .before .before .before in
+    let w = c .before .before in
     let e = w .before .before .before .before .before in
-    ((record { classes-are = refl; rows-are = refl; values-are = refl }, listed e), (asked e, w .wanted .ensures))
+    (listed (e .before .before), (asked e, w .wanted .ensures))
 
 same-length-2 : tie.Need-same-length-2
 same-length-2 c = search needs
 
-returns-4 : tie.Need-returns-4
-returns-4 c =
+returns-6 : tie.Need-returns-6
+returns-6 c =
     let y = c .before in
-    let x = y .before .before .before .before .before .before .before in
+    let x = y .before .before .before .before .before in
     let k = x .before in
     let e = k .before .before in
     let u = e .before .before in
-    let g = u .before .before .before .before .before .before .before .args in
+    let g = u .before .before .before .before .before .before .before .before .before .before .before .args in
     meets
-    (apply-14 (g .count) (now (g .rw)) (now (g .ro)) (g .set) (g .lanes) (now (g .bank)) (opened u) (there (e .before)) (may e) (k .lowest-lacking .ensures) (x .if3 .left)
-    (y .lowest-bad .ensures) (c .if4 .taken))
+    (apply-14 (g .count) (now (g .rw)) (now (g .ro)) (g .set) (g .lanes) (now (g .bank)) (opened u) (there (e .before)) (may e) (k .lowest-lacking .ensures) (x .if5 .left) _ _ refl (u .before .before .before .entries .ensures .1)
+    (y .lowest-bad .ensures) (c .if6 .taken))
     refl
     refl
 
 copy-all-requires : tie.Need-copy-all-requires
 copy-all-requires c κs =
-    let w = c .before .before .before .before .before .before .before .before .before .before in
+    let w = c .before .before .before .before .before .before in
     let x = w .before .before in
     let k = x .before in
     let e = k .before .before in
-    let q : k .lowest-lacking .result ≡ 9 = x .if3 .left in
-    ((record { classes-are = refl; rows-are = refl; values-are = refl }, listed e), (asked e, w .wanted .ensures, λ i l h. k .lowest-lacking .ensures .below i l (omega (arith, q))))
+    let q : k .lowest-lacking .result ≡ 9 = x .if5 .left in
+    (listed (e .before .before), (asked e, w .wanted .ensures, λ i l h. k .lowest-lacking .ensures .below i l (omega (arith, q))))
 
-returns-5 : tie.Need-returns-5
-returns-5 c =
-    let k = c .before .before .before in
-    let g = k .before .before .before .before .args in
-    meets (call-shut (g .count) (now (g .rw)) (now (g .ro)) (Call.Apply (g .set) (g .lanes)) (now (g .bank)) _ (rw (c .before .g .given .1) at (k .admit .ensures))) refl refl
+returns-7 : tie.Need-returns-7
+returns-7 c =
+    let e = c .before .before .before in
+    let g = e .before .before .before .before .before .before .before .before .args in
+    meets (call-shut (g .count) (now (g .rw)) (now (g .ro)) (Call.Apply (g .set) (g .lanes)) (now (g .bank)) _
+    (λ rest. bank-order-refused (g .count) (now (g .rw)) (now (g .ro)) _ (fine (e .before .before .before)) (sym (e .entries .ensures .0) ∙ c .before .loaded .given .1) (length (now (g .bank))) rest (omega (arith, size-is, e .before .before .if2 .left)))) refl refl
 
 same-length-3 : tie.Need-same-length-3
 same-length-3 c = search needs
 
-returns-6 : tie.Need-returns-6
-returns-6 c =
+returns-8 : tie.Need-returns-8
+returns-8 c =
     let l = c .before .before in
-    let z = l .before .before .before .before .before in
+    let z = l .before .before .before in
     let y = z .before in
-    let x = y .before .before .before .before .before .before .before in
+    let x = y .before .before .before .before .before in
     let k = x .before in
     let e = k .before .before in
     let u = e .before .before in
-    let g = u .before .before .before .before .before .before .before .args in
+    let g = u .before .before .before .before .before .before .before .before .before .before .before .args in
     meets
-    (apply-done (g .count) (now (g .rw)) (now (g .ro)) (g .set) (g .lanes) (now (g .bank)) (opened u) (there (e .before)) (may e) (k .lowest-lacking .ensures) (x .if3 .left)
-    (y .lowest-bad .ensures) (z .if4 .left))
+    (apply-done (g .count) (now (g .rw)) (now (g .ro)) (g .set) (g .lanes) (now (g .bank)) (opened u) (there (e .before)) (may e) (k .lowest-lacking .ensures) (x .if5 .left) _ _ refl (u .before .before .before .entries .ensures .1)
+    (y .lowest-bad .ensures) (z .if6 .left))
     refl
     (l .copy-all .ensures)
 
@@ -151,19 +176,22 @@ pub apply-spec : {M : Type 1} → statement M
 apply-spec =
     tie.close
     (tie.spec
-    admit-requires
-    enum-known-g
-    enum-known-g-2
+    limits-requires
     returns
     returns-2
+    entries-requires
+    enum-known-loaded
+    enum-known-loaded-2
+    returns-3
+    returns-4
     lowest-lacking-requires
     same-length
-    returns-3
+    returns-5
     wanted-requires
     lowest-bad-requires
     same-length-2
-    returns-4
+    returns-6
     copy-all-requires
-    returns-5
+    returns-7
     same-length-3
-    returns-6)
+    returns-8)

@@ -1,103 +1,66 @@
 -- `lowest_bad` meets its contract.
-use mathlib.Core.Path.{_≡_, sym, ap, _∙_}
-use Prim.Native.Nat.{_-_, _<_}
+use mathlib.Core.Path.{_≡_, sym, _∙_}
+use mathlib.Core.List.{[]}
+use Prim.Native.Nat.{_-_, _≤_}
 use native.Mathlib.Omega.{arith}
-use lib.ListN.{length, getD}
+use lib.ListN.{getD}
 use denote.Ref.{now}
 use borrow.Author.Needs.{needs}
-use Rattle.rules.specs.Descriptor.{entryAt}
-use Rattle.rules.specs.Load.{rwEntries}
-use Rattle.rules.specs.Place.{nothing}
 use Rattle.rules.specs.Numbers.{any}
-use Rattle.control_set.specs.Plan.{Spread, fieldsOf, badIn, badAmong, Least}
+use Rattle.control_set.specs.Plan.{fieldsBy, badIn, badAmong, Least}
 use Rattle.control_set.proofs.Leasts.{any-none, any-more}
-use Rattle.control_set.proofs.Passed.{Passed, passed-none, passed-place, passed-entry, passed-next, passed-spread}
 use Rattle.control_set.proofs.plan.lowest_bad.Statement.{statement}
 use Rattle.control_set.proofs.plan.lowest_bad.Tie as tie
 
 abbrev Inv-loop : tie.InvT-loop
-Inv-loop classes rows values chosen apps first entries bank a lowest₀ number₀ mark₀ lowest number mark =
-    Passed (chosen .count) first number mark
-    × Least 9 lowest (λ i. any number λ n. badIn chosen (fieldsOf (getD (rwEntries (chosen .count) first) n nothing)) bank i)
+Inv-loop chosen apps list entries bank lowest₀ number₀ lowest number =
+    (number ≤ entries) × Least 9 lowest (λ i. any number λ n. badIn chosen (fieldsBy (getD list n [])) bank i)
 
 abbrev μ-loop : tie.MeasureT-loop
-μ-loop classes rows values chosen apps first entries bank a lowest₀ number₀ mark₀ lowest number mark = entries - number
-
--- the entry that is read, and its fields
-there : (c : tie.In-loop Inv-loop μ-loop) → let s = c .before .before .before .before .before in c .before .loop .number < length (rwEntries (s .args .chosen .count) (now (s .args .rw)))
-there c = omega (arith, c .before .before .before .before .before .pre .0 .1 .all)
-
-entry : (c : tie.In-loop Inv-loop μ-loop) →
-    let l = c .before in
-    let k = l .before in
-    let s = k .before .before .before in
-    entryAt (k .mask-bytes .result) (now (s .args .rw)) (l .loop .mark .at) (l .loop .mark .sum) ≡ getD (rwEntries (s .args .chosen .count) (now (s .args .rw))) (l .loop .number) nothing
-entry c =
-    let l = c .before in
-    let k = l .before in
-    let s = k .before .before .before in
-    rw (k .mask-bytes .ensures .0) (passed-entry (s .pre .0 .1) (l .loop .inv .0) (there c))
-
-fields : (c : tie.After-fields-at Inv-loop μ-loop) →
-    let l = c .before .before in
-    let s = l .before .before .before .before in
-    fieldsOf (getD (rwEntries (s .args .chosen .count) (now (s .args .rw))) (l .loop .number) nothing) ≡ c .fields-at .result
-fields c = sym (c .fields-at .ensures ∙ ap fieldsOf (entry (c .before)))
-
-spread : (c : tie.After-fields-at Inv-loop μ-loop) → Spread (c .fields-at .result)
-spread c =
-    let l = c .before .before in
-    rw (← fields c) (passed-spread (l .before .before .before .before .pre .0 .1) (l .loop .inv .0) (there (c .before)))
-
-mask-bytes-requires : tie.Need-mask-bytes-requires Inv-loop μ-loop
-mask-bytes-requires c κs = search needs
+μ-loop chosen apps list entries bank lowest₀ number₀ lowest number = entries - number
 
 loop-holds : tie.Need-loop-holds Inv-loop μ-loop
 loop-holds c =
-    let s = c .before .before .before in
-    (passed-none _ _, any-none 9 (λ n i. badIn (s .args .chosen) (fieldsOf (getD (rwEntries (s .args .chosen .count) (now (s .args .rw))) n nothing)) (now (s .args .bank)) i) (omega arith))
+    let g = c .before .args in
+    (omega arith, any-none 9 (λ n i. badIn (g .chosen) (fieldsBy (getD (now (g .list)) n [])) (now (g .bank)) i) (omega arith))
 
 fields-at-requires : tie.Need-fields-at-requires Inv-loop μ-loop
 fields-at-requires c κs =
-    let l = c .before in
-    let k = l .before in
-    let s = k .before .before .before in
-    (s .pre .0 .0, (k .mask-bytes .ensures .1, k .mask-bytes .ensures .2, passed-place (s .pre .0 .1) (l .loop .inv .0) (there c)))
+    let p = c .before .before .before .pre .0 in
+    (omega (arith, c .loop-test .taken, p .few), p .narrow _ (c .loop-test .taken))
 
 lowest-in-entry-requires : tie.Need-lowest-in-entry-requires Inv-loop μ-loop
 lowest-in-entry-requires c κs =
-    let l = c .before .before in
-    let s = l .before .before .before .before in
-    ((s .pre .1 .0, spread c, s .pre .1 .1), (l .loop .inv .1 .low, l .loop .inv .1 .le))
+    let t = c .before in
+    let l = t .before in
+    let s = l .before .before in
+    let p = s .pre .0 in (
+      (s .pre .1 .0, rw (c .fields-at .ensures) (p .spread _ (t .loop-test .taken)), rw (c .fields-at .ensures) (p .codes _ (t .loop-test .taken)), s .pre .1 .1),
+      (l .loop .inv .1 .low, l .loop .inv .1 .le),
+    )
 
 add-number : tie.Need-add-number Inv-loop μ-loop
 add-number c = search needs
-
-advance-requires : tie.Need-advance-requires Inv-loop μ-loop
-advance-requires c κs = search needs
 
 loop-less : tie.Need-loop-less Inv-loop μ-loop
 loop-less c = search needs
 
 loop-again : tie.Need-loop-again Inv-loop μ-loop
 loop-again c =
-    let k = c .before in
-    let f = k .before in
+    let f = c .before in
     let l = f .before .before in
-    let s = l .before .before .before .before in
-    let g = s .args in (
-      rw (c .advance .ensures, l .before .mask-bytes .ensures .0) (passed-next (s .pre .0 .1) (l .loop .inv .0) (there (f .before))),
-      any-more 9 _ _ _ (λ n i. badIn (g .chosen) (fieldsOf (getD (rwEntries (g .chosen .count) (now (g .rw))) n nothing)) (now (g .bank)) i)
+    let g = l .before .before .args in (
+      omega (arith, f .before .loop-test .taken),
+      any-more 9 _ _ _ (λ n i. badIn (g .chosen) (fieldsBy (getD (now (g .list)) n [])) (now (g .bank)) i)
           (l .loop .inv .1)
-          (rw (← fields f) at (k .lowest-in-entry .ensures)),
+          (rw (f .fields-at .ensures) at (c .lowest-in-entry .ensures)),
     )
 
 returns : tie.Need-returns Inv-loop μ-loop
 unfolding badAmong
 returns c =
     let l = c .before in
-    let s = l .before .before .before .before in
-    let e : l .loop .number ≡ length (rwEntries (s .args .chosen .count) (now (s .args .rw))) = omega (arith, l .loop .inv .0 .few, s .pre .0 .1 .all) in
+    let e : l .loop .number ≡ l .before .before .args .entries = omega (arith, l .loop .inv .0, c .loop-test .left) in
     rw e at (l .loop .inv .1)
 
 pub lowest-bad-spec : {M : Type 1} → statement M
@@ -106,12 +69,10 @@ lowest-bad-spec =
     (tie.spec
     Inv-loop
     μ-loop
-    mask-bytes-requires
     loop-holds
     fields-at-requires
     lowest-in-entry-requires
     add-number
-    advance-requires
     loop-less
     loop-again
     returns)

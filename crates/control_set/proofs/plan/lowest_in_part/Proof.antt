@@ -15,12 +15,12 @@ abbrev μ-loop : tie.MeasureT-loop
 μ-loop chosen f part top bank lane₀ lane = top - lane
 
 loop-holds : tie.Need-loop-holds Inv-loop μ-loop
-loop-holds c = (omega arith, c .before .pre .1 .2, clear-none _)
+loop-holds c = (omega arith, c .before .pre .1 .1, clear-none _)
 
 is-bad-requires : tie.Need-is-bad-requires Inv-loop μ-loop
 is-bad-requires c κs =
     let s = c .before .before .before in
-    (s .pre .0, (s .pre .1 .0, s .pre .1 .1, c .before .loop .inv .0, omega (arith, s .pre .1 .3)))
+    (s .pre .0, (s .pre .1 .0, c .before .loop .inv .0, omega (arith, s .pre .1 .2)))
 
 returns : tie.Need-returns Inv-loop μ-loop
 returns c =
@@ -42,7 +42,7 @@ returns-2 : tie.Need-returns-2 Inv-loop μ-loop
 returns-2 c =
     let s = c .before .before .before in
     let e : c .before .loop .lane ≡ s .args .top = omega (arith, c .before .loop .inv .1) in
-    least-top _ _ (s .pre .1 .2) (rw e at (c .before .loop .inv .2))
+    least-top _ _ (s .pre .1 .1) (rw e at (c .before .loop .inv .2))
 
 pub lowest-in-part-spec : {M : Type 1} → statement M
 lowest-in-part-spec =

@@ -14,7 +14,7 @@ pair-from-requires c κs = search needs
 
 returns : tie.Need-returns
 unfolding codesBy
-returns c = rw (lt-ltb 0 (c .before .before .before .args .place) (c .before .if1 .taken), c .pair-from .ensures) refl
+returns c = rw (lt-ltb 0 (c .before .before .before .args .place) (c .before .if1 .taken), c .pair-from .ensures .0) refl
 
 returns-2 : tie.Need-returns-2
 unfolding codesBy

@@ -6,8 +6,8 @@ use lib.ListN.{length, List·getD-eq-default}
 use denote.Ref.{now}
 use Rattle.rules.proofs.Checks.{high-two}
 use borrow.Author.Needs.{needs}
-use Rattle.descriptor.proofs.pair_from.Statement.{statement}
-use Rattle.descriptor.proofs.pair_from.Tie as tie
+use Rattle.descriptor.proofs.reading.pair_from.Statement.{statement}
+use Rattle.descriptor.proofs.reading.pair_from.Tie as tie
 
 byte-from-requires : tie.Need-byte-from-requires
 byte-from-requires c κs = search needs
@@ -28,13 +28,13 @@ returns : tie.Need-returns
 returns c =
     let k = c .before in
     let a = k .before .before .before .args in
-    ap₂ (λ x y. x * 256 + y) (k .byte-from .ensures .0) (c .byte-from2 .ensures .0) ∙ sym (high-two (now (a .s)) (a .at))
+    (ap₂ (λ x y. x * 256 + y) (k .byte-from .ensures .0) (c .byte-from2 .ensures .0) ∙ sym (high-two (now (a .s)) (a .at)), omega (arith, k .byte-from .ensures .1, c .byte-from2 .ensures .1))
 
 returns-2 : tie.Need-returns-2
 returns-2 c =
     let a = c .before .before .args in
     let l : length (now (a .s)) ≤ a .at = c .if1 .left in
-    sym (high-two (now (a .s)) (a .at) ∙ rw (List·getD-eq-default (now (a .s)) 0 {n = a .at} l, List·getD-eq-default (now (a .s)) 0 {n = a .at + 1} (omega arith)) refl)
+    (sym (high-two (now (a .s)) (a .at) ∙ rw (List·getD-eq-default (now (a .s)) 0 {n = a .at} l, List·getD-eq-default (now (a .s)) 0 {n = a .at + 1} (omega arith)) refl), omega arith)
 
 pub pair-from-spec : {M : Type 1} → statement M
 pair-from-spec =

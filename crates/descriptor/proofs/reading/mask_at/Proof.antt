@@ -4,14 +4,17 @@ use native.Mathlib.Omega.{arith}
 use denote.Ref.{now}
 use Rattle.rules.proofs.Checks.{high-one}
 use borrow.Author.Needs.{needs}
-use Rattle.control_set.proofs.plan.mask_at.Statement.{statement}
-use Rattle.control_set.proofs.plan.mask_at.Tie as tie
+use Rattle.descriptor.proofs.reading.mask_at.Statement.{statement}
+use Rattle.descriptor.proofs.reading.mask_at.Tie as tie
 
 byte-from-requires : tie.Need-byte-from-requires
 byte-from-requires c κs = search needs
 
 returns : tie.Need-returns
-returns c = let g = c .before .before .before .args in rw (c .before .if1 .taken) (c .byte-from .ensures .0 ∙ sym (high-one (now (g .s)) (g .at)))
+returns c =
+    let g = c .before .before .before .args in
+    let e = c .byte-from .ensures in
+    (rw (c .before .if1 .taken) (e .0 ∙ sym (high-one (now (g .s)) (g .at))), omega (arith, e .1))
 
 pair-from-requires : tie.Need-pair-from-requires
 pair-from-requires c κs = search needs

@@ -1,0 +1,74 @@
+-- An entry's line, and a lent list of the RW entries' lines.
+use mathlib.Core.Path.{_≡_}
+use mathlib.Core.Bool.{Bool, cond}
+use mathlib.Core.List.{List, [], _∷_}
+use Prim.Native.Nat.{ℕ, zero, suc, _<_}
+use lib.IntN.{ℤ, pos, negsuc, _-ℤ_}
+use lib.ListN.{length, getD, set}
+use Rattle.rules.specs.declared.Entry.{Entry}
+use Rattle.rules.specs.declared.Loaded.{Loaded}
+use Rattle.rules.specs.declared.Loaded.the-variants.{Accepted as accepted, Refused as rejected}
+use Rattle.rules.specs.Parameter.{rowOf}
+use Rattle.rules.specs.Descriptor.{entryAt}
+use Rattle.rules.specs.Place.{nothing, partsOf, widthOf, signedOf}
+use Rattle.descriptor.specs.declared.search.Mark.{Mark}
+use Rattle.descriptor.specs.declared.Named.{Named}
+use Rattle.descriptor.specs.Find.{lowIn, highIn, hasCodes, listedOf, namedOf}
+
+-- how far a number lies below 0, and above it
+abbrev pub below : ℤ → ℕ
+below (pos n) = 0
+below (negsuc n) = suc n
+
+abbrev pub above : ℤ → ℕ
+above (pos n) = n
+above (negsuc n) = 0
+
+abbrev pub flag : Bool → ℕ
+flag b = cond b 1 0
+
+-- application mask; offset, parts and bits a lane; signed; accepted from so far below 0 up to a number; coded, codes
+abbrev pub lineOf : Entry → List ℕ
+lineOf e =
+    e .mask
+    ∷ e .offset
+    ∷ partsOf e
+    ∷ widthOf e
+    ∷ flag (signedOf e)
+    ∷ below (lowIn (rowOf (e .id) .values))
+    ∷ above (highIn (rowOf (e .id) .values))
+    ∷ flag (hasCodes (rowOf (e .id) .codesAt))
+    ∷ listedOf e
+    ∷ []
+
+-- the same of what a call needs of an entry
+abbrev pub lineBy : ℕ → Named → List ℕ
+lineBy mask f =
+    mask ∷ f .offset ∷ f .parts ∷ f .width ∷ flag (f .signed) ∷ below (f .low) ∷ above (f .high) ∷ flag (f .coded) ∷ f .codes ∷ []
+
+-- numbers that a line has room for, from `far` below 0 up to `top`
+pub record Short (f : Named) : Type 0 where
+  pub offset : f .offset < 0x10000
+  pub parts : f .parts < 0x10000
+  pub width : f .width < 0x10000
+  pub far : ℕ
+  pub far-is : f .low ≡ pos 0 -ℤ pos far
+  pub far-small : far < 256
+  pub top : ℕ
+  pub top-is : f .high ≡ pos top
+  pub top-small : top < 256
+  pub codes : f .codes < 0x10000
+
+-- the line of the entry at a mark
+abbrev pub lineAt : ℕ → List ℕ → Mark → List ℕ
+lineAt a s mark = lineOf (entryAt a s (mark .at) (mark .sum))
+
+-- n lines, from the beginning of a list; the rest of the list stays
+unfoldable pub lines : (ℕ → List ℕ) → ℕ → List (List ℕ) → List (List ℕ)
+lines f zero list = list
+lines f (suc n) list = set (lines f n list) n (f n)
+
+-- the list after the load: entry n's line at index n; refused, as it was
+abbrev pub listOf : Loaded → List Entry → List (List ℕ) → List (List ℕ)
+listOf (accepted n k c t) l list = lines (λ i. lineOf (getD l i nothing)) (length l) list
+listOf (rejected r) l list = list
