@@ -34,7 +34,7 @@ use Rattle.descriptor.specs.Find.{InMap, acceptedBy, toldOrder, foundOf}
 use Rattle.descriptor.proofs.Accepts.{named-accepts}
 use Rattle.descriptor.proofs.Finds.{id-is, side-is, offset-is, parts-is, width-is, signed-is, step-is, found-stops, found-9, found-8, found-in}
 use Rattle.control_set.specs.Field.{Spot, InBits, bitsAt, withBits}
-use Rattle.control_set.specs.Values.{Ranged, numberBy}
+use Rattle.control_set.specs.Values.{CodesLow, numberBy}
 use Rattle.control_set.specs.Gate.{Opened, Entered, EntryGated, refusedOf}
 use Rattle.control_set.proofs.Spots.{spot-room, spot-field, bits-at-lt, number-field, with-number}
 use Rattle.control_set.proofs.Signs.{accepted-byte}
@@ -83,7 +83,7 @@ module _ (count : ℕ) (first last : List ℕ) (b : Bank) {e : ℕ} {f : Named} 
   pub entered-opened : Opened count first last (length b) (t .named .ok .rwCount) (t .named .ok .roCount) (t .named .ok .staged) (t .named .ok .active)
   entered-opened = record { size-is = t .size-is; loads = t .named .ok .loads }
 
-  pub ranged : Ranged f
+  pub ranged : CodesLow (f .low) (f .high) (f .coded)
   ranged = rw (← t .named .is) (named-ranged (not (isRW n e)) (entry n e))
 
   accepts-is : {s p i : ℕ} → Field (mapOf count first last) s e p i → (v : ℤ) → acceptedBy f v ≡ accepts (entry (mapOf count first last) e) v

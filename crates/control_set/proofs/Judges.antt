@@ -19,34 +19,12 @@ use Rattle.rules.proofs.Tests.{and₂, from-true, is-true, and-no}
 use Rattle.descriptor.specs.Find.{namedOf, acceptedIn}
 use Rattle.descriptor.proofs.Accepts.{signed-byte, named-accepts}
 use Rattle.control_set.specs.declared.plan.Fields.{Fields}
-use Rattle.control_set.specs.Plan.{CodesLow, fieldsOf, bitsNumber, acceptsBits, spansEvery, acceptsEvery}
-
--- a code of 4 bits is the number of a bit
-pub code-number : (z : ℤ) → (leZ (pos 0) z && leZ z (pos 15)) ≡ true → T (nonNeg z) × (natAbs z < 64)
-code-number (pos n) t = let l : n ≤ 15 = leb→le n 15 (and₂ (leb 0 n) (leb n 15) (from-true t) .1) in (tt, omega arith)
-code-number (negsuc n) t = let o : _≡_ {A = ℕ} 0 1 = cc in absurd (omega arith)
-
-pub mask-bit : (mask : ℕ) (z : ℤ) → T (nonNeg z) → eqb (bitAnd (mask / 2 ^ natAbs z) 1) 1 ≡ inMask mask z
-unfolding inMask
-mask-bit mask (pos n) h = rw (and-mask (mask / 2 ^ n) 1)
-mask-bit mask (negsuc n) h = absurd h
-
--- what the tests of one number answer
-module _ (low high : ℤ) (codes : ℕ) (z : ℤ) where
-  pub out-of-range : (coded : Bool) → (leZ low z && leZ z high) ≡ false → acceptedIn low high coded codes z ≡ false
-  unfolding acceptedIn
-  out-of-range coded q = rw q refl
-
-  pub in-range : (leZ low z && leZ z high) ≡ true → acceptedIn low high false codes z ≡ true
-  unfolding acceptedIn
-  in-range q = rw q refl
-
-  pub in-codes : (leZ low z && leZ z high) ≡ true → acceptedIn low high true codes z ≡ inMask codes z
-  unfolding acceptedIn
-  in-codes q = rw q refl
+use Rattle.control_set.specs.Plan.{LowCodes, fieldsOf, acceptsBits, spansEvery, acceptsEvery}
+use Rattle.control_set.specs.Values.{numberBy}
+use Rattle.control_set.proofs.Values.{number-named}
 
 -- with a code mask and every number in the range a field has at most 4 bits
-pub coded-width : (f : Fields) → CodesLow f → f .coded ≡ true → spansEvery f ≡ true → f .width ≤ 4
+pub coded-width : (f : Fields) → LowCodes f → f .coded ≡ true → spansEvery f ≡ true → f .width ≤ 4
 coded-width f low e q = go (f .signed) refl
   where
     small : (w : ℕ) → 2 ^ w ≤ 16 → Dec (w < 5) → w ≤ 4
@@ -72,7 +50,7 @@ every-bit m n h = go (m - n) (omega arith) (omega arith)
     go j e l = rw (← e, ones-split j n, high (2 ^ j - 1) n (ones-lt n)) (odd j l)
 
 -- a range that has a byte's signed numbers, or those of a width, has the number of a field's bits
-signed-in : (low high : ℤ) (n : ℕ) → n < 256 → (leZ low (negsuc 127) && leZ (pos 127) high) ≡ true → (leZ low (bitsNumber true n) && leZ (bitsNumber true n) high) ≡ true
+signed-in : (low high : ℤ) (n : ℕ) → n < 256 → (leZ low (negsuc 127) && leZ (pos 127) high) ≡ true → (leZ low (numberBy true n) && leZ (numberBy true n) high) ≡ true
 signed-in (pos a) high n h q = let o : _≡_ {A = ℕ} 0 1 = cc in absurd (omega arith)
 signed-in (negsuc a) (negsuc c) n h q = let o = rw (and-no (leb 127 a)) at q in let z : _≡_ {A = ℕ} 0 1 = cc in absurd (omega arith)
 signed-in (negsuc a) (pos c) n h q = go (decLt n 128)
@@ -83,7 +61,7 @@ signed-in (negsuc a) (pos c) n h q = go (decLt n 128)
     high : 127 ≤ c
     high = leb→le 127 c (and₂ (leb 127 a) (leb 127 c) (from-true q) .1)
 
-    go : Dec (n < 128) → (leZ (negsuc a) (bitsNumber true n) && leZ (bitsNumber true n) (pos c)) ≡ true
+    go : Dec (n < 128) → (leZ (negsuc a) (numberBy true n) && leZ (numberBy true n) (pos c)) ≡ true
     go (yes l) = rw (lt-leb 128 n l) (le-leb n c (omega (arith, high)))
     go (no l) = rw (le-leb 128 n (omega arith), lt-ltb n 256 h) (rw (le-leb (256 - suc n) a (omega (arith, low))) refl)
 
@@ -95,23 +73,23 @@ plain-in (pos a) (pos c) n m h q =
     rw (le-leb a n (omega (arith, leb→le a 0 x)), le-leb n c (omega (arith, leb→le (m - 1) c y))) refl
 
 module _ (f : Fields) (n : ℕ) (few : f .width ≤ 8) (h : n < 2 ^ f .width) where
-  spanned : spansEvery f ≡ true → (leZ (f .low) (bitsNumber (f .signed) n) && leZ (bitsNumber (f .signed) n) (f .high)) ≡ true
+  spanned : spansEvery f ≡ true → (leZ (f .low) (numberBy (f .signed) n) && leZ (numberBy (f .signed) n) (f .high)) ≡ true
   spanned q = go (f .signed) refl
     where
-      go : (t : Bool) → f .signed ≡ t → (leZ (f .low) (bitsNumber t n) && leZ (bitsNumber t n) (f .high)) ≡ true
+      go : (t : Bool) → f .signed ≡ t → (leZ (f .low) (numberBy t n) && leZ (numberBy t n) (f .high)) ≡ true
       go true e = signed-in (f .low) (f .high) n (omega (arith, h, pow-mono few)) (rw e at q)
       go false e = plain-in (f .low) (f .high) n (2 ^ f .width) h (rw e at q)
 
   -- every number is accepted
-  pub every-accepted : CodesLow f → acceptsEvery f ≡ true → acceptsBits f n ≡ true
+  pub every-accepted : LowCodes f → acceptsEvery f ≡ true → acceptsBits f n ≡ true
   unfolding acceptedIn inMask
   every-accepted low q =
       rw r (go (f .coded) refl (and₂ (spansEvery f) (not (f .coded) || eqb (f .codes) (2 ^ (2 ^ f .width) - 1)) (from-true q) .1))
     where
-      r : (leZ (f .low) (bitsNumber (f .signed) n) && leZ (bitsNumber (f .signed) n) (f .high)) ≡ true
+      r : (leZ (f .low) (numberBy (f .signed) n) && leZ (numberBy (f .signed) n) (f .high)) ≡ true
       r = spanned (is-true _ (and₂ (spansEvery f) (not (f .coded) || eqb (f .codes) (2 ^ (2 ^ f .width) - 1)) (from-true q) .0))
 
-      codes : f .codes ≡ 2 ^ (2 ^ f .width) - 1 → (z : ℤ) → leZ (pos 0) z ≡ true → z ≡ bitsNumber (f .signed) n → inMask (f .codes) z ≡ true
+      codes : f .codes ≡ 2 ^ (2 ^ f .width) - 1 → (z : ℤ) → leZ (pos 0) z ≡ true → z ≡ numberBy (f .signed) n → inMask (f .codes) z ≡ true
       codes e z l w = by-number (f .signed && leb 128 n) z l w
         where
           by-number : (t : Bool) (z : ℤ) → leZ (pos 0) z ≡ true → z ≡ cond t (pos n -ℤ pos 256) (pos n) → inMask (f .codes) z ≡ true
@@ -121,27 +99,11 @@ module _ (f : Fields) (n : ℕ) (few : f .width ≤ 8) (h : n < 2 ^ f .width) wh
               let u : _≡_ {A = ℕ} 0 1 = cc in
               absurd (omega arith)
 
-      go : (t : Bool) → f .coded ≡ t → T (not t || eqb (f .codes) (2 ^ (2 ^ f .width) - 1)) → (not t || inMask (f .codes) (bitsNumber (f .signed) n)) ≡ true
+      go : (t : Bool) → f .coded ≡ t → T (not t || eqb (f .codes) (2 ^ (2 ^ f .width) - 1)) → (not t || inMask (f .codes) (numberBy (f .signed) n)) ≡ true
       go false e v = refl
-      go true e v = codes (eqb→eq _ _ v) (bitsNumber (f .signed) n) (is-true _ (and₂ (leZ (pos 0) (bitsNumber (f .signed) n)) _ (from-true (rw (low e .0) at r)) .0)) refl
+      go true e v = codes (eqb→eq _ _ v) (numberBy (f .signed) n) (is-true _ (and₂ (leZ (pos 0) (numberBy (f .signed) n)) _ (from-true (rw (low e .0) at r)) .0)) refl
 
--- the rules' number of a field's bits, and what they accept
-signed-number : (n : ℕ) → n < 256 → bitsNumber true n ≡ fromBits true 8 n
-unfolding fromBits
-signed-number n h = go (decLt n 128)
-  where
-    go : Dec (n < 128) → cond (leb 128 n) (pos n -ℤ pos 256) (pos n) ≡ cond (ltb n 128) (pos n) (negsuc (256 - suc n))
-    go (yes l) = rw (lt-leb 128 n l, lt-ltb n 128 l) refl
-    go (no l) = rw (le-leb 128 n (omega arith), le-ltb n 128 (omega arith), lt-ltb n 256 h) refl
-
-number-is : (e : Entry) (n : ℕ) → n < 2 ^ widthOf e → bitsNumber (signedOf e) n ≡ fromBits (signedOf e) (widthOf e) n
-unfolding fromBits widthOf signedOf
-number-is e n h = go (rowOf (e .id) .signed) refl
-  where
-    go : (t : Bool) → rowOf (e .id) .signed ≡ t → bitsNumber t n ≡ fromBits t (rowOf (e .id) .width) n
-    go false s = refl
-    go true s = let w = signed-byte (e .id) s in rw w (signed-number n (rw w at h))
-
+-- what the rules accept of a field's bits
 pub bits-judged : (e : Entry) (n : ℕ) → 0 < partsOf e → n < 2 ^ widthOf e → acceptsBits (fieldsOf e) n ≡ accepts e (fromBits (signedOf e) (widthOf e) n)
 unfolding namedOf
-bits-judged e n some h = rw (number-is e n h) (named-accepts false e (fromBits (signedOf e) (widthOf e) n) some)
+bits-judged e n some h = rw (number-named e n h) (named-accepts false e (fromBits (signedOf e) (widthOf e) n) some)

@@ -29,7 +29,7 @@ use Rattle.descriptor.proofs.Accepts.{coded-values}
 use Rattle.descriptor.proofs.Marks.{Marked, marked}
 use Rattle.descriptor.proofs.EntryLines.{low-below, high-above, codes-small, lines-at, rw-few}
 use Rattle.control_set.specs.declared.plan.Fields.{Fields}
-use Rattle.control_set.specs.Plan.{Narrow, Listed, Spread, CodesLow, fieldsOf, fieldsBy}
+use Rattle.control_set.specs.Plan.{Narrow, Listed, Spread, LowCodes, fieldsOf, fieldsBy}
 
 -- a number of 16 bits below 0
 pub below-fits : (n : ℕ) → n < 0x10000 → SFits w64 (pos 0 -ℤ pos n)
@@ -67,7 +67,7 @@ line-narrow e m o =
     go (suc (suc (suc (suc (suc (suc (suc (suc (suc k))))))))) = omega arith
 
 -- codes are low
-pub entry-codes : (e : Entry) → CodesLow (fieldsOf e)
+pub entry-codes : (e : Entry) → LowCodes (fieldsOf e)
 entry-codes e h = let c = coded-values (e .id) h in (c .low-is, c .high-is)
 
 -- an application mask of bytes
@@ -135,5 +135,5 @@ module _ (count : ℕ) (first last : List ℕ) (n k c t : ℕ) (h : loadOf count
         few = list-few;
         narrow = λ i l. rw (list-line i l) (entry-narrow count first last accept bytes i (omega (arith, list-all)));
         spread = λ i l. subst (λ (x : Fields). Spread x) (sym (list-fields i l)) (entry-spread count first last accept bytes i (omega (arith, list-all)));
-        codes = λ i l. subst (λ (x : Fields). CodesLow x) (sym (list-fields i l)) (entry-codes (getD (rwEntries count first) i nothing));
+        codes = λ i l. subst (λ (x : Fields). LowCodes x) (sym (list-fields i l)) (entry-codes (getD (rwEntries count first) i nothing));
       }

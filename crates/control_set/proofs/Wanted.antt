@@ -21,7 +21,7 @@ use Rattle.rules.proofs.Tests.{and₂, and₃, from-true, is-true, both-true, o
 use Rattle.control_set.specs.declared.plan.Chosen.{Chosen}
 use Rattle.control_set.specs.declared.plan.Fields.{Fields}
 use Rattle.control_set.specs.Field.{bitsAt}
-use Rattle.control_set.specs.Plan.{Asked, Spread, CodesLow, Wants, Clear, Least, acceptsEvery, joinedBy, copiesBy, lacksBy, badAt, badIn, copyLane, copyPart, copyEntry}
+use Rattle.control_set.specs.Plan.{Asked, Spread, LowCodes, Wants, Clear, Least, acceptsEvery, joinedBy, copiesBy, lacksBy, badAt, badIn, copyLane, copyPart, copyEntry}
 use Rattle.control_set.proofs.Copies.{Kept, app-outside}
 use Rattle.descriptor.proofs.Bits.{and-bit, or-bit}
 use Rattle.control_set.proofs.Spots.{bits-at-lt}
@@ -126,7 +126,7 @@ module _ (c : Chosen) (f : Fields) (b : Bank) (none : (i : ℕ) → 1 ≤ i → 
 -- an entry that accepts every number holds no other
 pub every-fine :
     (c : Chosen) (f : Fields) (b : Bank) (top : ℕ)
-    → CodesLow f
+    → LowCodes f
     → f .width ≤ 8
     → acceptsEvery f ≡ true
     → 1 ≤ top

@@ -21,6 +21,7 @@ use Rattle.descriptor.specs.Find.{lowIn, highIn, hasCodes, listedOf, acceptedIn
 use Rattle.control_set.specs.declared.plan.Chosen.{Chosen}
 use Rattle.control_set.specs.declared.plan.Fields.{Fields}
 use Rattle.control_set.specs.Field.{bitsAt, withBits}
+use Rattle.control_set.specs.Values.{CodesLow, numberBy}
 
 -- a staged set, and a bank for it
 pub record Asked (c : Chosen) (b : Bank) : Type 0 where
@@ -33,9 +34,8 @@ pub record Spread (f : Fields) : Type 0 where
   pub whole : 0 < f .parts → Width (f .width)
   pub inside : f .offset + f .parts * f .width ≤ 256
 
--- codes are numbers of 4 bits
-abbrev pub CodesLow : Fields → Type 0
-CodesLow f = f .coded ≡ true → (f .low ≡ pos 0) × (f .high ≡ pos 15)
+abbrev pub LowCodes : Fields → Type 0
+LowCodes f = CodesLow (f .low) (f .high) (f .coded)
 
 -- what apply needs of an entry
 abbrev pub fieldsOf : Entry → Fields
@@ -76,7 +76,7 @@ pub record Listed (n : ℕ) (list : List (List ℕ)) : Type 0 where
   pub few : n ≤ 30
   pub narrow : (i : ℕ) → i < n → Narrow (getD list i [])
   pub spread : (i : ℕ) → i < n → Spread (fieldsBy (getD list i []))
-  pub codes : (i : ℕ) → i < n → CodesLow (fieldsBy (getD list i []))
+  pub codes : (i : ℕ) → i < n → LowCodes (fieldsBy (getD list i []))
 
 -- k is the lowest lane below `top` at which f is true; `top` where there is none
 pub record Least (top k : ℕ) (f : ℕ → Bool) : Type 0 where
@@ -105,12 +105,8 @@ abbrev pub joinedBy : Chosen → Bank → ℕ → ℕ → ℕ
 joinedBy c b i apps =
     cond (chooses (c .lanes) i && isApp (c .count) (appSelIn b (c .set) i)) (bitOr apps (1 * 2 ^ (appSelIn b (c .set) i - 1) % 2 ^ 64)) apps
 
--- the number that a field's bits stand for: those of a signed one are 8
-abbrev pub bitsNumber : Bool → ℕ → ℤ
-bitsNumber signed n = cond (signed && leb 128 n) (pos n -ℤ pos 256) (pos n)
-
 abbrev pub acceptsBits : Fields → ℕ → Bool
-acceptsBits f n = acceptedIn (f .low) (f .high) (f .coded) (f .codes) (bitsNumber (f .signed) n)
+acceptsBits f n = acceptedIn (f .low) (f .high) (f .coded) (f .codes) (numberBy (f .signed) n)
 
 -- every number of a field's bits is accepted: from low to high lie those of a byte, if signed, or of the width, and codes have a bit each
 abbrev pub spansEvery : Fields → Bool

@@ -8,11 +8,11 @@ use Rattle.rules.specs.Bank.{Bank}
 use Rattle.descriptor.specs.declared.Named.{Named}
 use Rattle.descriptor.specs.Find.{acceptedBy}
 use Rattle.control_set.specs.Field.{Spot, InBits, withBits}
-use Rattle.control_set.specs.Values.{Ranged}
+use Rattle.control_set.specs.Values.{CodesLow}
 
 -- a field of an entry whose accepted values have its bits
 pub record Storable (b : Bank) (s : ℕ) (f : Named) (p i : ℕ) (v : ℤ) : Type 0 where
-  pub ranged : Ranged f
+  pub ranged : CodesLow (f .low) (f .high) (f .coded)
   pub spot : Spot b s (f .offset) p (f .width) i
   pub bits : acceptedBy f v ≡ true → InBits 8 v × (toBits 8 v ≡ toBits (f .width) v) × (toBits (f .width) v < 2 ^ f .width)
 

@@ -4,12 +4,10 @@ use mathlib.Core.Bool.{Bool, true, _&&_, cond}
 use Prim.Native.Nat.{ℕ}
 use lib.IntN.{ℤ, pos, _-ℤ_}
 use lib.Dec.{leb}
-use Rattle.descriptor.specs.declared.Named.{Named}
 
--- codes are of 4 bits at most
-pub record Ranged (f : Named) : Type 0 where
-  pub low : f .coded ≡ true → f .low ≡ pos 0
-  pub high : f .coded ≡ true → f .high ≡ pos 15
+-- codes are numbers of 4 bits
+abbrev pub CodesLow : ℤ → ℤ → Bool → Type 0
+CodesLow low high coded = coded ≡ true → (low ≡ pos 0) × (high ≡ pos 15)
 
 -- the number that the bits of a field stand for, in two's complement of a byte if signed
 abbrev pub numberBy : Bool → ℕ → ℤ

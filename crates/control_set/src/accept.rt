@@ -1,17 +1,16 @@
 // Accepted values.
 ghost use mathlib.Core.Path.{_≡_};
-ghost use Rattle.descriptor.specs.Find.{acceptedBy};
-ghost use Rattle.control_set.specs.Values.{Ranged};
-use descriptor::Named;
+ghost use Rattle.descriptor.specs.Find.{acceptedIn};
+ghost use Rattle.control_set.specs.Values.{CodesLow};
 
-// Whether a field of an entry accepts a value.
-pub fn accepts(f: Named, value: i64) -> bool
-    requires { ⌜ Ranged f ⌝ }
-    ensures { λ r. ⌜ r ≡ acceptedBy f value ⌝ }
+// Whether a value is from low to high and, where there is a code mask, has a bit in `codes`.
+pub fn accepts(low: i64, high: i64, coded: bool, codes: usize, value: i64) -> bool
+    requires { ⌜ CodesLow low high coded ⌝ }
+    ensures { λ r. ⌜ r ≡ acceptedIn low high coded codes value ⌝ }
 {
-    if (f.low <= value) & (value <= f.high) {
-        if f.coded {
-            return (f.codes >> (value as usize)) & 1 == 1;
+    if (low <= value) & (value <= high) {
+        if coded {
+            return (codes >> (value as usize)) & 1 == 1;
         }
         return true;
     }

@@ -130,7 +130,7 @@ fn store(bank: &mut [u8], set: usize, f: Named, part: usize, lane: usize, value:
     ensures answer { λ r. ⌜ r ≡ acceptedBy f value ⌝ }
     ensures after { λ _. ⌜ now (bank .exit) ≡ storeOf (now (bank .entry)) set f part lane value ⌝ }
 {
-    if accepts(f, value) {
+    if accepts(f.low, f.high, f.coded, f.codes, value) {
         let bits = bits_of(value);
         write_field(bank, set, f.offset, part, f.width, lane, bits);
         return true;

@@ -8,9 +8,11 @@ ghost use Rattle.rules.specs.Descriptor.{isApp, hasApp};
 ghost use Rattle.rules.specs.Layout.{bankSize};
 ghost use Rattle.rules.specs.Refuse.{chooses};
 ghost use Rattle.rules.specs.Bank.{appSelIn};
-ghost use Rattle.control_set.specs.Plan.{Asked, Narrow, Listed, Spread, CodesLow, Wants, joinedBy, fieldsBy, bitsNumber, acceptsBits, spansEvery, acceptsEvery, copiesBy, lacksBy, badAt, badIn, badAmong, Least};
+ghost use Rattle.control_set.specs.Plan.{Asked, Narrow, Listed, Spread, LowCodes, Wants, joinedBy, fieldsBy, acceptsBits, spansEvery, acceptsEvery, copiesBy, lacksBy, badAt, badIn, badAmong, Least};
+use crate::accept::accepts;
 use crate::bank::app_sel_at;
 use crate::bank::read_field;
+use crate::number::number_of;
 use descriptor::columns::BELOW;
 use descriptor::columns::CODED;
 use descriptor::columns::CODES;
@@ -153,35 +155,17 @@ pub fn wanted(chosen: Chosen, bank: &[u8]) -> usize
     apps
 }
 
-// The number that a field's bits stand for. A signed one has 8 bits: from 128 on it is a negative number.
-fn number_in(signed: bool, bits: u8) -> i64
-    ensures { λ r. ⌜ r ≡ bitsNumber signed bits ⌝ }
-{
-    let number = bits as i64;
-    if signed & (128 <= bits) {
-        return number - 256;
-    }
-    number
-}
-
 // Whether a field of an entry accepts the number that its bits stand for.
 fn fits_entry(f: Fields, bits: u8) -> bool
-    requires { ⌜ CodesLow f ⌝ }
+    requires { ⌜ LowCodes f ⌝ }
     ensures { λ r. ⌜ r ≡ acceptsBits f bits ⌝ }
 {
-    let number = number_in(f.signed, bits);
-    if (f.low <= number) & (number <= f.high) {
-        if f.coded {
-            return (f.codes >> (number as usize)) & 1 == 1;
-        }
-        return true;
-    }
-    false
+    accepts(f.low, f.high, f.coded, f.codes, number_of(f.signed, bits))
 }
 
 // 14: whether a field is to be copied and holds a value not accepted.
 fn is_bad(chosen: Chosen, f: Fields, part: usize, lane: usize, bank: &[u8]) -> bool
-    requires { ⌜ Asked chosen (now bank) × Spread f × CodesLow f ⌝ }
+    requires { ⌜ Asked chosen (now bank) × Spread f × LowCodes f ⌝ }
     requires { ⌜ (part < f .parts) × (1 ≤ lane) × (lane ≤ 8) ⌝ }
     ensures { λ r. ⌜ r ≡ badAt chosen f (now (bank .entry)) part lane ⌝ }
 {
@@ -194,7 +178,7 @@ fn is_bad(chosen: Chosen, f: Fields, part: usize, lane: usize, bank: &[u8]) -> b
 
 // The lowest lane below `top` with such a field in a part, else `top`.
 fn lowest_in_part(chosen: Chosen, f: Fields, part: usize, top: usize, bank: &[u8]) -> usize
-    requires { ⌜ Asked chosen (now bank) × Spread f × CodesLow f ⌝ }
+    requires { ⌜ Asked chosen (now bank) × Spread f × LowCodes f ⌝ }
     requires { ⌜ (part < f .parts) × (1 ≤ top) × (top ≤ 9) ⌝ }
     ensures { λ r. ⌜ Least top r (badAt chosen f (now (bank .entry)) part) ⌝ }
 {
@@ -239,7 +223,7 @@ fn spans_all(f: Fields) -> bool
 
 // Whether the entry accepts every such number: where there is a code mask, all are in it too.
 fn accepts_all(f: Fields) -> bool
-    requires { ⌜ CodesLow f × (f .width ≤ 8) ⌝ }
+    requires { ⌜ LowCodes f × (f .width ≤ 8) ⌝ }
     ensures { λ r. ⌜ r ≡ acceptsEvery f ⌝ }
 {
     if spans_all(f) {
@@ -253,7 +237,7 @@ fn accepts_all(f: Fields) -> bool
 
 // In an entry. One that accepts every number holds no other.
 fn lowest_in_entry(chosen: Chosen, apps: usize, f: Fields, top: usize, bank: &[u8]) -> usize
-    requires { ⌜ Asked chosen (now bank) × Spread f × CodesLow f × Wants chosen (now bank) 9 apps ⌝ }
+    requires { ⌜ Asked chosen (now bank) × Spread f × LowCodes f × Wants chosen (now bank) 9 apps ⌝ }
     requires { ⌜ (1 ≤ top) × (top ≤ 9) ⌝ }
     ensures { λ r. ⌜ Least top r (badIn chosen f (now (bank .entry))) ⌝ }
 {

@@ -9,11 +9,13 @@ use lib.Dec.{ltb, leb, ltb→lt, leb→le}
 use borrow.Author.Tests.{ltb-true, ltb-false, lt-ltb, le-ltb, le-leb}
 use Rattle.rules.specs.declared.Entry.{Entry}
 use Rattle.rules.specs.declared.Refusal.{Refusal}
+use Rattle.rules.specs.declared.Refusal.the-variants.{Plain as plain}
 use Rattle.rules.specs.declared.Loaded.{Loaded}
 use Rattle.rules.specs.declared.Loaded.the-variants.{Accepted as accepted, Refused as rejected}
 use Rattle.rules.specs.Descriptor.{maskBytes, byteAt, entryAt}
-use Rattle.rules.specs.Load.{Map, loadOf, total, mapOf}
+use Rattle.rules.specs.Load.{Map, sized, loadOf, total, mapOf}
 use Rattle.rules.specs.Place.{nothing, entry, partsOf, widthOf, isRW, heldBy, lengthOf}
+use Rattle.rules.specs.Refuse.{check9, orderOf}
 use Rattle.rules.specs.Demands.{Accepted}
 use Rattle.rules.proofs.Tests.{and-no, and₂, from-true}
 use Rattle.rules.proofs.Good.{Good, starts}
@@ -95,6 +97,10 @@ data Says (count : ℕ) (rw ro : List ℕ) (k : ℕ) : Covered → Type 0 where
 module _ (count : ℕ) (first last : List ℕ) (k : ℕ) where
   abbrev m : Map
   m = mapOf count first last
+
+  pub cover-9 : sized count first last ≡ false → notCovered (plain 9) ≡ coverOf count first last k
+  unfolding coverOf orderOf check9
+  cover-9 h = rw h refl
 
   pub cover-rejected : (r : Refusal) → loadOf count first last ≡ rejected r → notCovered r ≡ coverOf count first last k
   unfolding coverOf

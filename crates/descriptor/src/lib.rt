@@ -279,6 +279,16 @@ pub enum Covered {
 pub fn cover(count: usize, rw: &[u8], ro: &[u8], offset: usize) -> Covered
     ensures { λ r. ⌜ r ≡ coverOf count (now (rw .entry)) (now (ro .entry)) offset ⌝ }
 {
+    if !limits(count, rw, ro) {
+        return Covered::Refused(Refusal::Plain(9));
+    }
+    covering(count, rw, ro, offset)
+}
+
+// The same with the load's own check of 9: a call of the load after a look at the lengths gets the strings without a wide copy.
+fn covering(count: usize, rw: &[u8], ro: &[u8], offset: usize) -> Covered
+    ensures { λ r. ⌜ r ≡ coverOf count (now (rw .entry)) (now (ro .entry)) offset ⌝ }
+{
     let loaded = load(count, rw, ro);
     match loaded {
         Loaded::Refused(r) => Covered::Refused(r),

@@ -1,4 +1,5 @@
--- The layout of a bank: sets lie apart, AppSels lie apart and apart from the sets, all inside the bank's size. Nothing else of it is used.
+-- The layout of a bank: sets lie apart, AppSels lie apart and apart from the sets, all inside the bank's size. Beside these laws
+-- only the numbers that the code has are used.
 use mathlib.Core.Path.{_≡_, refl}
 use mathlib.Core.Logic.{_≢_}
 use Prim.Native.Nat.{ℕ, zero, suc, _+_, _*_, _≤_, _<_}
@@ -22,6 +23,12 @@ app-start (suc (suc s)) h = absurd (omega arith)
 pub size-is : bankSize ≡ 784
 unfolding bankSize
 size-is = refl
+
+pub set-start-staged : (s : ℕ) → s < 2 → setStart s ≡ 256 * s
+unfolding setStart
+set-start-staged zero h = refl
+set-start-staged (suc zero) h = refl
+set-start-staged (suc (suc s)) h = absurd (omega arith)
 
 pub set-start-last : (s : ℕ) → 2 ≤ s → setStart s ≡ 512
 unfolding setStart

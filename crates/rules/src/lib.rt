@@ -15,11 +15,10 @@ pub const ACTIVE_END: usize = 768;
 pub fn set_start(set: usize) -> usize
     ensures { λ r. ⌜ r ≡ setStart set ⌝ }
 {
-    match set {
-        0 => 0,
-        1 => 256,
-        _ => ACTIVE_START,
+    if set < 2 {
+        return 256 * set;
     }
+    ACTIVE_START
 }
 
 // Where the AppSels of a staged set begin, those of lanes 1 to 8 in a row.

@@ -17,29 +17,35 @@ use Rattle.control_set.proofs.store.Tie as tie
 plain : (c : tie.Start) → toZ w64 (ofZ w64 (c .args .value)) ≡ c .args .value
 plain c = toZ-ofZ (c .fits .value)
 
-accepted : (c : tie.After-accepts) → let a = c .before .before .args in c .accepts .result ≡ acceptedBy (a .f) (a .value)
-accepted c = rw (plain (c .before .before)) at (c .accepts .ensures)
+low : (c : tie.After-struct-told2) → let f = c .before .before .before .args .f in toZ w64 (ofZ w64 (f .low)) ≡ f .low
+low c = search needs
 
-yes : (c : tie.Then1) → let a = c .before .before .before .args in acceptedBy (a .f) (a .value) ≡ true
+high : (c : tie.After-struct-told2) → let f = c .before .before .before .args .f in toZ w64 (ofZ w64 (f .high)) ≡ f .high
+high c = search needs
+
+accepted : (c : tie.After-accepts) → let a = c .before .before .before .before .args in c .accepts .result ≡ acceptedBy (a .f) (a .value)
+accepted c = rw (plain (c .before .before .before .before), low (c .before), high (c .before)) at (c .accepts .ensures)
+
+yes : (c : tie.Then1) → let a = c .before .before .before .before .before .args in acceptedBy (a .f) (a .value) ≡ true
 yes c = sym (accepted (c .before)) ∙ c .if1 .taken
 
 -- the value's bits
 bits : (c : tie.Then1) →
-    let a = c .before .before .before .args in
+    let a = c .before .before .before .before .before .args in
     InBits 8 (a .value) × (toBits 8 (a .value) ≡ toBits (a .f .width) (a .value)) × (toBits (a .f .width) (a .value) < 2 ^ a .f .width)
-bits c = c .before .before .before .pre .bits (yes c)
+bits c = c .before .before .before .before .before .pre .bits (yes c)
 
-stored : (c : tie.After-bits-of) → let a = c .before .before .before .before .args in c .bits-of .result ≡ toBits (a .f .width) (a .value)
-stored c = (rw (plain (c .before .before .before .before)) at (c .bits-of .ensures)) ∙ bits (c .before) .1
+stored : (c : tie.After-bits-of) → let a = c .before .before .before .before .before .before .args in c .bits-of .result ≡ toBits (a .f .width) (a .value)
+stored c = (rw (plain (c .before .before .before .before .before .before)) at (c .bits-of .ensures)) ∙ bits (c .before) .1
 
 accepts-requires : tie.Need-accepts-requires
-accepts-requires c κs = c .before .pre .ranged
+accepts-requires c κs = rw (low c, high c) (c .before .before .before .pre .ranged)
 
 bits-of-requires : tie.Need-bits-of-requires
-bits-of-requires c κs = rw (plain (c .before .before .before)) (bits c .0)
+bits-of-requires c κs = rw (plain (c .before .before .before .before .before)) (bits c .0)
 
 write-field-requires : tie.Need-write-field-requires
-write-field-requires c κs = let b = c .before in (b .before .before .before .before .pre .spot, rw (stored b) (bits (b .before) .2))
+write-field-requires c κs = let b = c .before in (b .before .before .before .before .before .before .pre .spot, rw (stored b) (bits (b .before) .2))
 
 same-length : tie.Need-same-length
 same-length c = search needs

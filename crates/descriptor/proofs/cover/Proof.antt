@@ -1,143 +1,26 @@
 -- `cover` meets its contract.
-use mathlib.Core.Path.{_≡_, refl, sym, _∙_}
-use mathlib.Core.Bool.{true, false}
-use Prim.Native.Nat.{_+_, _≤_, _<_}
-use native.Mathlib.Omega.{arith}
-use denote.Ref.{now}
-use Rattle.rules.specs.declared.Loaded.the-variants.{Accepted as accepted}
-use Rattle.rules.specs.Descriptor.{maskBytes, entryAt}
-use Rattle.rules.specs.Load.{loadOf}
-use Rattle.rules.specs.Place.{partsOf, widthOf}
-use Rattle.descriptor.specs.declared.Covered.the-variants.{By as by}
-use Rattle.descriptor.specs.Find.{namedOf}
-use Rattle.descriptor.specs.Cover.{coverOf, Hits}
-use Rattle.descriptor.proofs.Covers.{cover-rejected, covers-seeks, covers-found, covers-past, covers-none}
 use borrow.Author.Needs.{needs}
+use borrow.Author.Tests.{not-true}
+use mathlib.Core.Path.{sym, _∙_}
+use denote.Ref.{now}
+use Rattle.descriptor.proofs.Covers.{cover-9}
 use Rattle.descriptor.proofs.cover.Statement.{statement}
 use Rattle.descriptor.proofs.cover.Tie as tie
 
--- an accepted load, in the numbers that the match binds
-loads : (c : tie.After-known-told2) →
-    let g = c .before .before .before .before .before .before .args in
-    let x = c .before .loaded2 .given .0 in
-    loadOf (g .count) (now (g .rw)) (now (g .ro)) ≡ accepted (x .0) (x .1 .0) (x .1 .1 .0) (x .1 .1 .1 .0)
-loads c = sym (c .before .before .before .load .ensures) ∙ c .before .loaded2 .given .1
-
--- where the searches end
-first : (c : tie.After-look) →
-    let k = c .before .before in
-    let g = k .before .before .before .before .before .before .args in
-    Hits (maskBytes (g .count)) (now (g .rw)) 0 (k .before .loaded2 .given .0 .0) (g .offset) (c .look .result)
-first c = rw (← c .before .mask-bytes .ensures .0) (c .look .ensures)
-
-last : (c : tie.After-look2) →
-    let k = c .before .before .before .before .before in
-    let g = k .before .before .before .before .before .before .args in
-    let x = k .before .loaded2 .given .0 in
-    Hits (maskBytes (g .count)) (now (g .ro)) (x .1 .1 .0) (x .1 .0) (g .offset) (c .look2 .result)
-last c = rw (← c .before .before .before .before .mask-bytes .ensures .0) (c .look2 .ensures)
-
--- the entry that covers the byte
-in-first : (c : tie.Then1) →
-    let k = c .before .before .before .before in
-    let g = k .before .before .before .before .before .before .args in
-    let h = c .before .before .look .result in
-    let e = entryAt (maskBytes (g .count)) (now (g .rw)) (h .at) (h .sum) in
-    (h .at ≤ 120) × (by false (h .number) (h .sum) (partsOf e) (widthOf e) ≡ coverOf (g .count) (now (g .rw)) (now (g .ro)) (g .offset)) × (h .number ≤ 240)
-in-first c =
-    let k = c .before .before .before .before in
-    let g = k .before .before .before .before .before .before .args in
-    covers-found (g .count) (now (g .rw)) (now (g .ro)) (g .offset) _ _ _ _ (loads k) false (first (c .before .before)) (c .if1 .taken)
-
-in-last : (c : tie.Then2) →
-    let k = c .before .before .before .before .before .before .before in
-    let g = k .before .before .before .before .before .before .args in
-    let h = c .before .before .look2 .result in
-    let e = entryAt (maskBytes (g .count)) (now (g .ro)) (h .at) (h .sum) in
-    let n = k .before .loaded2 .given .0 .0 + h .number in
-    (h .at ≤ 120) × (by true n (h .sum) (partsOf e) (widthOf e) ≡ coverOf (g .count) (now (g .rw)) (now (g .ro)) (g .offset)) × (n ≤ 240)
-in-last c =
-    let k = c .before .before .before .before .before .before .before in
-    let g = k .before .before .before .before .before .before .args in
-    covers-found (g .count) (now (g .rw)) (now (g .ro)) (g .offset) _ _ _ _ (loads k) true (last (c .before .before)) (c .if2 .taken)
-
-load-requires : tie.Need-load-requires
-load-requires c κs = search needs
-
-enum-known-loaded : tie.Need-enum-known-loaded
-enum-known-loaded c = search needs
-
-enum-known-loaded-2 : tie.Need-enum-known-loaded-2
-enum-known-loaded-2 c = search needs
-
-mask-bytes-requires : tie.Need-mask-bytes-requires
-mask-bytes-requires c κs = search needs
-
-look-requires : tie.Need-look-requires
-look-requires c κs =
-    let k = c .before in
-    let g = k .before .before .before .before .before .before .args in
-    (rw (c .mask-bytes .ensures .0) (covers-seeks (g .count) (now (g .rw)) (now (g .ro)) (g .offset) _ _ _ _ (loads k) false), omega arith)
-
-named-at-requires : tie.Need-named-at-requires
-named-at-requires c κs =
-    let h = c .before .before .before .before in
-    (record { classes-are = refl; rows-are = refl; fields-are = refl; listed-are = refl }, (h .before .before .before .mask-bytes .ensures .2, in-first h .0))
+limits-requires : tie.Need-limits-requires
+limits-requires c κs = search needs
 
 returns : tie.Need-returns
-unfolding namedOf
-returns c = let h = c .before .before .before .before .before in rw (c .named-at .ensures, h .before .before .before .mask-bytes .ensures .0) (in-first h .1)
+returns c =
+    let k = c .before in
+    let g = k .before .before .before .args in
+    cover-9 (g .count) (now (g .rw)) (now (g .ro)) (g .offset) (sym (k .limits .ensures) ∙ not-true _ (c .if1 .taken))
 
-look-requires-2 : tie.Need-look-requires-2
-look-requires-2 c κs =
-    let l = c .before .before in
-    let m = l .before in
-    let k = m .before in
-    let g = k .before .before .before .before .before .before .args in (
-      rw (m .mask-bytes .ensures .0) (covers-seeks (g .count) (now (g .rw)) (now (g .ro)) (g .offset) _ _ _ _ (loads k) true),
-      covers-past (g .count) (now (g .rw)) (now (g .ro)) (g .offset) _ _ _ _ (loads k) false (first l) (c .if1 .left),
-    )
-
-named-at-requires-2 : tie.Need-named-at-requires-2
-named-at-requires-2 c κs =
-    let h = c .before .before .before .before in
-    (record { classes-are = refl; rows-are = refl; fields-are = refl; listed-are = refl }, (h .before .before .before .before .before .before .mask-bytes .ensures .2, in-last h .0))
-
-add-t53 : tie.Need-add-t53
-add-t53 c = omega (arith, in-last (c .before .before .before .before .before .before) .2)
+covering-requires : tie.Need-covering-requires
+covering-requires c κs = search needs
 
 returns-2 : tie.Need-returns-2
-unfolding namedOf
-returns-2 c = let h = c .before .before .before .before .before .before in rw (c .before .named-at2 .ensures, h .before .before .before .before .before .before .mask-bytes .ensures .0) (in-last h .1)
-
-returns-3 : tie.Need-returns-3
-returns-3 c =
-    let k = c .before .before .before in
-    let g = k .before .before .before .args in
-    cover-rejected (g .count) (now (g .rw)) (now (g .ro)) (g .offset) _ (sym (k .load .ensures) ∙ c .before .loaded .given .1)
-
-returns-4 : tie.Need-returns-4
-returns-4 c =
-    let l = c .before .before in
-    let k = l .before .before .before .before .before in
-    let g = k .before .before .before .before .before .before .args in
-    let past = covers-past (g .count) (now (g .rw)) (now (g .ro)) (g .offset) _ _ _ _ (loads k) true (last l) (c .if2 .left) in
-    covers-none (g .count) (now (g .rw)) (now (g .ro)) (g .offset) _ _ _ _ (loads k) past
+returns-2 c = c .covering .ensures
 
 pub cover-spec : {M : Type 1} → statement M
-cover-spec =
-    tie.close
-    (tie.spec
-    load-requires
-    enum-known-loaded
-    enum-known-loaded-2
-    mask-bytes-requires
-    look-requires
-    named-at-requires
-    returns
-    look-requires-2
-    named-at-requires-2
-    add-t53
-    returns-2
-    returns-3
-    returns-4)
+cover-spec = tie.close (tie.spec limits-requires returns covering-requires returns-2)

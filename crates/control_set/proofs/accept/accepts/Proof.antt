@@ -16,34 +16,33 @@ use Rattle.control_set.proofs.accept.accepts.Tie as tie
 plain : (c : tie.Start) → toZ w64 (ofZ w64 (c .args .value)) ≡ c .args .value
 plain c = toZ-ofZ (c .fits .value)
 
-least : (c : tie.After-struct-told2) → toZ w64 (ofZ w64 (c .before .before .before .before .args .f .low)) ≡ c .before .before .before .before .args .f .low
-least c = search needs
+least : (c : tie.Start) → toZ w64 (ofZ w64 (c .args .low)) ≡ c .args .low
+least c = toZ-ofZ (c .fits .low)
 
-most : (c : tie.After-struct-told2) → toZ w64 (ofZ w64 (c .before .before .before .before .args .f .high)) ≡ c .before .before .before .before .args .f .high
-most c = search needs
+most : (c : tie.Start) → toZ w64 (ofZ w64 (c .args .high)) ≡ c .args .high
+most c = toZ-ofZ (c .fits .high)
 
-within : (c : tie.Then1) → let a = c .before .before .before .before .before .args in (leZ (a .f .low) (a .value) && leZ (a .value) (a .f .high)) ≡ true
-within c = let t = c .before in rw (plain (t .before .before .before .before), least t, most t) at (c .if1 .taken)
+within : (c : tie.Then1) → let a = c .before .args in (leZ (a .low) (a .value) && leZ (a .value) (a .high)) ≡ true
+within c = let s = c .before in rw (plain s, least s, most s) at (c .if1 .taken)
 
 -- a code
-code : (c : tie.Then2) → Bit (c .before .before .before .before .before .before .args .value)
+code : (c : tie.Then2) → Bit (c .before .before .args .value)
 code c =
-    let s = c .before .before .before .before .before .before in
-    let h = c .if2 .taken in
-    code-bit (s .args .value) (rw (s .pre .low h, s .pre .high h) at (within (c .before)))
+    let s = c .before .before in
+    let e = s .pre (c .if2 .taken) in
+    code-bit (s .args .value) (rw (e .0, e .1) at (within (c .before)))
 
 cast-result : tie.Need-cast-result
-cast-result c = rw (plain (c .before .before .before .before .before .before)) (code c .low, record { fits = omega (arith, code c .top) })
+cast-result c = rw (plain (c .before .before)) (code c .low, record { fits = omega (arith, code c .top) })
 
 shr-result : tie.Need-shr-result
-shr-result c = rw (plain (c .before .before .before .before .before .before .before)) (code (c .before) .top)
+shr-result c = rw (plain (c .before .before)) (code c .top)
 
 returns : tie.Need-returns
 unfolding acceptedIn
 returns c =
-    let e = c .before in
-    let s = e .before .before .before .before .before .before in
-    rw (plain s, within (e .before), e .if2 .taken) (codes-bit (s .args .f .codes) (s .args .value) (code e .low))
+    let s = c .before .before in
+    rw (plain s, within (c .before), c .if2 .taken) (codes-bit (s .args .codes) (s .args .value) (code c .low))
 
 returns-2 : tie.Need-returns-2
 unfolding acceptedIn
@@ -51,10 +50,7 @@ returns-2 c = rw (within (c .before), c .if2 .left) refl
 
 returns-3 : tie.Need-returns-3
 unfolding acceptedIn
-returns-3 c =
-    let t = c .before in
-    let h = rw (plain (t .before .before .before .before), least t, most t) at (c .if1 .left) in
-    rw h refl
+returns-3 c = let s = c .before in let h = rw (plain s, least s, most s) at (c .if1 .left) in rw h refl
 
 pub accepts-spec : {M : Type 1} → statement M
 accepts-spec = tie.close (tie.spec cast-result shr-result returns returns-2 returns-3)
