@@ -74,6 +74,23 @@ pub fn admit_byte(
     if !limits(count, rw, ro) {
         return Byte::Refused(Refusal::Plain(9));
     }
+    admit_byte_within(count, rw, ro, size, set, offset)
+}
+
+// The same, with its own look at the lengths (see `descriptor::cover`).
+fn admit_byte_within(
+    count: usize,
+    rw: &[u8],
+    ro: &[u8],
+    size: usize,
+    set: usize,
+    offset: usize,
+) -> Byte
+    ensures { λ r. ⌜ ByteGated count (now (rw .entry)) (now (ro .entry)) size set offset r ⌝ }
+{
+    if !limits(count, rw, ro) {
+        return Byte::Refused(Refusal::Plain(9));
+    }
     if size < BANK_SIZE {
         return Byte::Refused(Refusal::Plain(8));
     }

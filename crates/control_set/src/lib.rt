@@ -153,6 +153,27 @@ pub fn write(
     ensures answer { λ r. ⌜ r ≡ bankStep count (now (rw .entry)) (now (ro .entry)) (Call.Write set entry part lane value) (now (bank .entry)) .0 ⌝ }
     ensures after { λ _. ⌜ now (bank .exit) ≡ bankStep count (now (rw .entry)) (now (ro .entry)) (Call.Write set entry part lane value) (now (bank .entry)) .1 ⌝ }
 {
+    if !limits(count, rw, ro) {
+        return Answer::Refused(Refusal::Plain(9));
+    }
+    write_within(count, rw, ro, bank, set, entry, part, lane, value)
+}
+
+// The same without that look at the lengths (see `descriptor::cover`).
+fn write_within(
+    count: usize,
+    rw: &[u8],
+    ro: &[u8],
+    bank: &mut [u8],
+    set: usize,
+    entry: usize,
+    part: usize,
+    lane: usize,
+    value: i64,
+) -> Answer
+    ensures answer { λ r. ⌜ r ≡ bankStep count (now (rw .entry)) (now (ro .entry)) (Call.Write set entry part lane value) (now (bank .entry)) .0 ⌝ }
+    ensures after { λ _. ⌜ now (bank .exit) ≡ bankStep count (now (rw .entry)) (now (ro .entry)) (Call.Write set entry part lane value) (now (bank .entry)) .1 ⌝ }
+{
     let found = admit_entry(count, rw, ro, bank.len(), entry);
     let Found::In(f) = found else {
         return refused(found);

@@ -282,11 +282,12 @@ pub fn cover(count: usize, rw: &[u8], ro: &[u8], offset: usize) -> Covered
     if !limits(count, rw, ro) {
         return Covered::Refused(Refusal::Plain(9));
     }
-    covering(count, rw, ro, offset)
+    cover_within(count, rw, ro, offset)
 }
 
-// The same with the load's own check of 9: a call of the load after a look at the lengths gets the strings without a wide copy.
-fn covering(count: usize, rw: &[u8], ro: &[u8], offset: usize) -> Covered
+// The same without that look at the lengths. With it the strings are handed on from registers, not by a wide copy of what was
+// just stored, which the processor waits for.
+fn cover_within(count: usize, rw: &[u8], ro: &[u8], offset: usize) -> Covered
     ensures { λ r. ⌜ r ≡ coverOf count (now (rw .entry)) (now (ro .entry)) offset ⌝ }
 {
     let loaded = load(count, rw, ro);

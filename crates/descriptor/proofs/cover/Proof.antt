@@ -16,11 +16,11 @@ returns c =
     let g = k .before .before .before .args in
     cover-9 (g .count) (now (g .rw)) (now (g .ro)) (g .offset) (sym (k .limits .ensures) ∙ not-true _ (c .if1 .taken))
 
-covering-requires : tie.Need-covering-requires
-covering-requires c κs = search needs
+cover-within-requires : tie.Need-cover-within-requires
+cover-within-requires c κs = search needs
 
 returns-2 : tie.Need-returns-2
-returns-2 c = c .covering .ensures
+returns-2 c = c .cover-within .ensures
 
 pub cover-spec : {M : Type 1} → statement M
-cover-spec = tie.close (tie.spec limits-requires returns covering-requires returns-2)
+cover-spec = tie.close (tie.spec limits-requires returns cover-within-requires returns-2)

@@ -1,4 +1,4 @@
--- `covering` meets its contract.
+-- `cover_within` meets its contract.
 use mathlib.Core.Path.{_≡_, refl, sym, _∙_}
 use mathlib.Core.Bool.{true, false}
 use Prim.Native.Nat.{_+_, _≤_, _<_}
@@ -13,8 +13,8 @@ use Rattle.descriptor.specs.Find.{namedOf}
 use Rattle.descriptor.specs.Cover.{coverOf, Hits}
 use Rattle.descriptor.proofs.Covers.{cover-rejected, covers-seeks, covers-found, covers-past, covers-none}
 use borrow.Author.Needs.{needs}
-use Rattle.descriptor.proofs.covering.Statement.{statement}
-use Rattle.descriptor.proofs.covering.Tie as tie
+use Rattle.descriptor.proofs.cover_within.Statement.{statement}
+use Rattle.descriptor.proofs.cover_within.Tie as tie
 
 -- an accepted load, in the numbers that the match binds
 loads : (c : tie.After-known-told2) →
@@ -124,8 +124,8 @@ returns-4 c =
     let past = covers-past (g .count) (now (g .rw)) (now (g .ro)) (g .offset) _ _ _ _ (loads k) true (last l) (c .if2 .left) in
     covers-none (g .count) (now (g .rw)) (now (g .ro)) (g .offset) _ _ _ _ (loads k) past
 
-pub covering-spec : {M : Type 1} → statement M
-covering-spec =
+pub cover-within-spec : {M : Type 1} → statement M
+cover-within-spec =
     tie.close
     (tie.spec
     load-requires
