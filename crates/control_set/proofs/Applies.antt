@@ -15,13 +15,13 @@ use Rattle.rules.specs.Load.{loadOf, rwEntries, Map, mapOf}
 use Rattle.rules.specs.Place.{nothing, entry, partsOf, widthOf, signedOf, isSet}
 use Rattle.rules.specs.Accept.{accepts, fromBits}
 use Rattle.rules.specs.Refuse.{firstOf, bankOrder, exists, misdirected, unaccepted, judge}
-use Rattle.rules.specs.Bank.{Bank, putField, numberIn, bankLacksApp, bankCopies, bankHoldsBad, bankPlan, bankDoes, bankStep, loop, copyField, applyBank}
+use Rattle.rules.specs.Bank.{Bank, putField, numberIn, bankLacksApp, bankCopies, bankHoldsBad, bankPlan, bankDoes, bankCall, loop, copyField, applyBank}
 use Rattle.rules.specs.Demands.{Accepted}
 use Rattle.rules.specs.Numbers.{any}
-use Rattle.rules.proofs.Any.{any-ext}
-use Rattle.rules.proofs.Steps.{step-refused, step-done, judge-ok}
-use Rattle.rules.proofs.Orders.{bank-order-accepted}
-use Rattle.rules.proofs.EntryHeads.{in-rw}
+use Rattle.rules.proofs.Basics.Any.{any-ext}
+use Rattle.rules.proofs.Refusals.CallOrder.{call-refused, call-does, judge-ok}
+use Rattle.rules.proofs.Refusals.Orders.{bank-order-accepted}
+use Rattle.rules.proofs.Load.EntryHeads.{in-rw}
 use Rattle.control_set.specs.declared.plan.Chosen.{Chosen}
 use Rattle.control_set.specs.declared.plan.Fields.{Fields}
 use Rattle.control_set.specs.Field.{bitsAt}
@@ -29,11 +29,11 @@ use Rattle.control_set.specs.Gate.{Opened}
 use Rattle.control_set.specs.Plan.{Asked, fieldsOf, fieldsBy, acceptsBits, copiesBy, lacksBy, badAt, badIn, badAmong, copyLane, copyPart, copyEntry, copyAmong, Least}
 use Rattle.control_set.proofs.Spots.{bits-at-lt, bits-field, with-field, number-field}
 use Rattle.descriptor.specs.EntryLines.{listOf}
-use Rattle.control_set.proofs.Ways.{opened-accepted, count-top, call-10, call-11}
+use Rattle.control_set.proofs.Outcomes.{opened-accepted, count-top, call-10, call-11}
 use Rattle.control_set.proofs.Leasts.{least-ext, lowest-refuses, lowest-passes}
 use Rattle.control_set.proofs.Copies.{loop-ext}
-use Rattle.control_set.proofs.Judges.{bits-judged}
-use Rattle.control_set.proofs.Lists.{list-all, list-fields}
+use Rattle.control_set.proofs.JudgedFields.{bits-judged}
+use Rattle.control_set.proofs.EntryList.{list-all, list-fields}
 
 module _ (count : ℕ) (first last : List ℕ) where
   pub map-count : mapOf count first last .count ≡ count
@@ -135,12 +135,12 @@ module _ (count : ℕ) (first last : List ℕ) (s lanes : ℕ) (b : Bank) where
     pub apply-asked : s < 2 → Asked (asked count) b
     apply-asked h = record { count = count-top count first last (o .loads); staged = h; size = o .size-is }
 
-    pub apply-10 : isSet s ≡ false → bankStep count first last (Call.Apply s lanes) b ≡ (refused (plain 10), b)
+    pub apply-10 : isSet s ≡ false → bankCall count first last (Call.Apply s lanes) b ≡ (refused (plain 10), b)
     unfolding exists
     apply-10 h = call-10 count first last (Call.Apply s lanes) b o h
 
     module _ (h : isSet s ≡ true) where
-      pub apply-11 : eqb s 2 ≡ true → bankStep count first last (Call.Apply s lanes) b ≡ (refused (plain 11), b)
+      pub apply-11 : eqb s 2 ≡ true → bankCall count first last (Call.Apply s lanes) b ≡ (refused (plain 11), b)
       unfolding exists misdirected
       apply-11 l = call-11 count first last (Call.Apply s lanes) b o h l
 
@@ -154,9 +154,9 @@ module _ (count : ℕ) (first last : List ℕ) (s lanes : ℕ) (b : Bank) where
         lacks : {i : ℕ} → Least 9 i (lacksBy (asked count) b) → Least 9 i (bankLacksApp m b s lanes)
         lacks a = least-ext a lacks-is
 
-        pub apply-13 : {i : ℕ} → Least 9 i (lacksBy (asked count) b) → i ≢ 9 → bankStep count first last (Call.Apply s lanes) b ≡ (refused (atLane 13 i), b)
+        pub apply-13 : {i : ℕ} → Least 9 i (lacksBy (asked count) b) → i ≢ 9 → bankCall count first last (Call.Apply s lanes) b ≡ (refused (atLane 13 i), b)
         unfolding bankPlan
-        apply-13 {i} a ne = step-refused count first last (Call.Apply s lanes) b (atLane 13 i) (order ∙ rw (lowest-refuses 13 i _ (lacks a) ne) refl)
+        apply-13 {i} a ne = call-refused count first last (Call.Apply s lanes) b (atLane 13 i) (order ∙ rw (lowest-refuses 13 i _ (lacks a) ne) refl)
 
         module _ {i : ℕ} (a : Least 9 i (lacksBy (asked count) b)) (q : i ≡ 9) where
           module _ (old list : List (List ℕ)) (long : length old ≡ 30) (w : list ≡ listOf (loadOf count first last) (rwEntries count first) old) where
@@ -169,16 +169,16 @@ module _ (count : ℕ) (first last : List ℕ) (s lanes : ℕ) (b : Bank) where
             bad : {j : ℕ} → Least 9 j (badAmong (asked count) n list b) → Least 9 j (bankHoldsBad m b s lanes)
             bad d = least-ext d (among-is n list all fields ok)
 
-            pub apply-14 : {j : ℕ} → Least 9 j (badAmong (asked count) n list b) → j ≢ 9 → bankStep count first last (Call.Apply s lanes) b ≡ (refused (atLane 14 j), b)
+            pub apply-14 : {j : ℕ} → Least 9 j (badAmong (asked count) n list b) → j ≢ 9 → bankCall count first last (Call.Apply s lanes) b ≡ (refused (atLane 14 j), b)
             unfolding bankPlan
             apply-14 {j} d ne =
-                step-refused count first last (Call.Apply s lanes) b (atLane 14 j)
+                call-refused count first last (Call.Apply s lanes) b (atLane 14 j)
                 (order ∙ rw (lowest-passes 13 i _ (lacks a) q, lowest-refuses 14 j _ (bad d) ne) refl)
 
             pub apply-done : {j : ℕ} → Least 9 j (badAmong (asked count) n list b) → j ≡ 9
-                → bankStep count first last (Call.Apply s lanes) b ≡ (saysYes, copyAmong (asked count) n list b b)
+                → bankCall count first last (Call.Apply s lanes) b ≡ (saysYes, copyAmong (asked count) n list b b)
             unfolding bankPlan bankDoes
             apply-done {j} d z =
-                step-done count first last (Call.Apply s lanes) b
+                call-does count first last (Call.Apply s lanes) b
                 (order ∙ rw (lowest-passes 13 i _ (lacks a) q, lowest-passes 14 j _ (bad d) z) refl)
                 ∙ ap (λ (y : Bank). (saysYes, y)) (sym (copied-is n list all fields ok))

@@ -15,13 +15,13 @@ use lib.Seq.{getD-set-other, getD-take, getD-drop}
 use borrow.Rule.Slice.PartMut.{midOf, putMid, set-mid-at}
 use Rattle.rules.specs.Numbers.{cut}
 use Rattle.rules.specs.Descriptor.{hasApp}
-use Rattle.rules.specs.Place.{laneBit}
+use Rattle.rules.specs.Place.{laneBit, Width}
 use Rattle.rules.specs.Refuse.{chooses}
 use Rattle.rules.specs.Layout.{bankSize, HasBytes, setStart, appSelAt}
 use Rattle.rules.specs.Bank.{Bank, merge, loop}
-use Rattle.rules.proofs.BankLayout.{set-apart, app-no-set}
-use Rattle.rules.proofs.Lanes.{Width, lane-byte-lt}
-use Rattle.rules.proofs.Applied.{loop-inv}
+use Rattle.rules.proofs.Bank.Places.{set-apart, app-no-set}
+use Rattle.rules.proofs.Place.Lanes.{lane-byte-lt}
+use Rattle.rules.proofs.Apply.Applied.{loop-inv}
 use Rattle.control_set.specs.declared.plan.Chosen.{Chosen}
 use Rattle.control_set.specs.declared.plan.Fields.{Fields}
 use Rattle.control_set.specs.Field.{Spot, byteIn, bitsAt, withBits}

@@ -12,7 +12,7 @@ use Rattle.rules.specs.declared.Refusal.the-variants.{AtLane as atLane}
 use Rattle.rules.specs.Descriptor.{isApp}
 use Rattle.rules.specs.Numbers.{any, lowest}
 use Rattle.rules.specs.Refuse.{passes, refuses, atLowest}
-use Rattle.rules.proofs.Tests.{and₂, from-true, or-yes}
+use Rattle.rules.proofs.Basics.Tests.{and₂, from-true, or-yes}
 use Rattle.control_set.specs.Plan.{Least, Clear}
 
 pub app-range : (count a : ℕ) → isApp count a ≡ true → (1 ≤ a) × (a ≤ count)

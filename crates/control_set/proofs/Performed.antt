@@ -1,5 +1,5 @@
 -- DEMAND 3 of the code: every sequence of calls of `perform` from an accepted `fresh` answers as the plain table does, and the bank
--- then shows the table. `perform` and each single call answer `bankStep .. .0` and leave `bankStep .. .1` (src/lib.rt).
+-- then shows the table. `perform` and each single call answer `bankCall .. .0` and leave `bankCall .. .1` (src/lib.rt).
 use mathlib.Core.Path.{_≡_, refl, ap₂, _∙_}
 use mathlib.Core.List.{List, [], _∷_}
 use Prim.Native.Nat.{ℕ}
@@ -9,7 +9,7 @@ use lib.ListN.{length, drop}
 use Rattle.rules.specs.Load.{mapOf}
 use Rattle.rules.specs.Layout.{bankSize}
 use Rattle.rules.specs.Machine.{Command, call, run}
-use Rattle.rules.specs.Bank.{Bank, bankStep, freshStep, bankMakes}
+use Rattle.rules.specs.Bank.{Bank, bankCall, freshCall, bankMakes}
 use Rattle.rules.specs.Demands.{Shows, tableRun, FreshAccepted}
 use Rattle.rules.proofs.Demands.{demand3-after-fresh}
 
@@ -18,8 +18,8 @@ pub data Performs (count : ℕ) (rw ro : List ℕ) : Bank → List Command → L
   none : {b : Bank} → Performs count rw ro b [] [] b
   also :
       {b b₁ b₂ : Bank} {c : Call} {cs : List Command} {a : Answer} {rs : List Answer}
-      → a ≡ bankStep count rw ro c b .0
-      → b₁ ≡ bankStep count rw ro c b .1
+      → a ≡ bankCall count rw ro c b .0
+      → b₁ ≡ bankCall count rw ro c b .1
       → Performs count rw ro b₁ cs rs b₂
       → Performs count rw ro b (call c ∷ cs) (a ∷ rs) b₂
 
@@ -42,7 +42,7 @@ module _ (count : ℕ) (first last : List ℕ) where
       (bank : Bank)
       → FreshAccepted count first last bank
       → {cs : List Command} {rs : List Answer} {b : Bank}
-      → Performs count first last (freshStep count first last bank .1) cs rs b
+      → Performs count first last (freshCall count first last bank .1) cs rs b
       → AsTable count first last bank cs rs b
   performed-as-table bank f {cs} h =
       let (x, y) = runs h in

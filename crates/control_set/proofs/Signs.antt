@@ -13,12 +13,11 @@ use mir.Syntax.{w64}
 use mir.Val.{SFits}
 use Rattle.rules.specs.declared.Entry.{Entry}
 use Rattle.rules.specs.Parameter.{rowOf}
-use Rattle.rules.specs.Place.{widthOf, signedOf}
+use Rattle.rules.specs.Place.{widthOf, signedOf, Width}
 use Rattle.rules.specs.Accept.{accepts, toBits, fromBits, thousandths}
-use Rattle.rules.proofs.Codes.{half, fits, from-fits}
-use Rattle.rules.proofs.Lanes.{Width}
-use Rattle.rules.proofs.Rows.{accepts-fits}
-use Rattle.rules.proofs.Tests.{from-true}
+use Rattle.rules.proofs.Table.Numbers.{half, fits, from-fits}
+use Rattle.rules.proofs.Table.Rows.{accepts-fits}
+use Rattle.rules.proofs.Basics.Tests.{from-true}
 use Rattle.descriptor.proofs.Accepts.{few-unsigned}
 use Rattle.control_set.specs.Field.{InBits}
 

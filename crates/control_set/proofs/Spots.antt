@@ -6,14 +6,14 @@ use lib.IntN.{ℤ}
 use lib.ListN.{length}
 use Rattle.rules.specs.declared.Entry.{Entry}
 use Rattle.rules.specs.Load.{Map}
-use Rattle.rules.specs.Place.{entry, widthOf, signedOf, laneBit}
+use Rattle.rules.specs.Place.{entry, widthOf, signedOf, laneBit, Field}
 use Rattle.rules.specs.Accept.{toBits, fromBits}
 use Rattle.rules.specs.Layout.{bankSize}
 use Rattle.rules.specs.Bank.{Bank, getField, putField, numberIn, withNumber}
-use Rattle.rules.proofs.Lanes.{width-pos, lane-room}
-use Rattle.rules.proofs.Digits.{cut-lt}
-use Rattle.rules.proofs.Good.{GoodMap}
-use Rattle.rules.proofs.Places.{Field, field-width, in-set}
+use Rattle.rules.proofs.Place.Lanes.{width-pos, lane-room}
+use Rattle.rules.proofs.Basics.Digits.{cut-lt}
+use Rattle.rules.proofs.Place.AcceptedMap.{GoodMap}
+use Rattle.rules.proofs.Place.Fields.{field-width, in-set}
 use Rattle.control_set.specs.Field.{Room, Spot, bitsAt, withBits}
 
 pub spot-room : {b : Bank} {s offset p w i : ℕ} → Spot b s offset p w i → Room (laneBit w i) w

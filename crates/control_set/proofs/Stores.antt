@@ -9,18 +9,17 @@ use Rattle.rules.specs.declared.Call.{Call}
 use Rattle.rules.specs.declared.Answer.the-variants.{Yes as saysYes, Refused as refused}
 use Rattle.rules.specs.declared.Refusal.the-variants.{Plain as plain}
 use Rattle.rules.specs.Load.{mapOf}
-use Rattle.rules.specs.Place.{entry}
+use Rattle.rules.specs.Place.{entry, Field}
 use Rattle.rules.specs.Accept.{accepts, toBits}
 use Rattle.rules.specs.Refuse.{passes, firstOf, exists, misdirected, unaccepted}
-use Rattle.rules.specs.Bank.{Bank, withNumber, bankPlan, bankDoes, bankStep}
-use Rattle.rules.proofs.Places.{Field}
+use Rattle.rules.specs.Bank.{Bank, withNumber, bankPlan, bankDoes, bankCall}
 use Rattle.descriptor.specs.declared.Named.{Named}
 use Rattle.descriptor.specs.Find.{acceptedBy}
 use Rattle.control_set.specs.Field.{withBits}
 use Rattle.control_set.specs.Store.{Storable, storeOf}
-use Rattle.control_set.proofs.Ways.{call-12, call-done}
+use Rattle.control_set.proofs.Outcomes.{call-12, call-done}
 use Rattle.control_set.specs.Gate.{Entered}
-use Rattle.control_set.proofs.Enters.{ranged, entered-opened, spot-there, stored-there, value-tested, value-bits}
+use Rattle.control_set.proofs.EntryCalls.{ranged, entered-opened, spot-there, stored-there, value-tested, value-bits}
 
 module _ (count : ℕ) (first last : List ℕ) (b : Bank) {e : ℕ} {f : Named} (t : Entered count first last (length b) e f) where
   pub storable : {s p i : ℕ} → Field (mapOf count first last) s e p i → (v : ℤ) → Storable b s f p i v
@@ -35,7 +34,7 @@ module _ (count : ℕ) (first last : List ℕ) (b : Bank) {e : ℕ} {f : Named} 
       → unaccepted (mapOf count first last) c ≡ not (accepts (entry (mapOf count first last) e) v)
       → firstOf (bankPlan (mapOf count first last) c b) ≡ passes
       → bankDoes (mapOf count first last) c b ≡ (saysYes, withNumber (mapOf count first last) b s e p i v)
-      → bankStep count first last c b ≡ (cond (acceptedBy f v) saysYes (refused (plain 12)), storeOf b s f p i v)
+      → bankCall count first last c b ≡ (cond (acceptedBy f v) saysYes (refused (plain 12)), storeOf b s f p i v)
   unfolding storeOf
   call-stores c s p i v w h l u q d = go (acceptedBy f v) refl
     where
@@ -43,7 +42,7 @@ module _ (count : ℕ) (first last : List ℕ) (b : Bank) {e : ℕ} {f : Named} 
       tested x y = u ∙ value-tested count first last b t w v ∙ ap not y
 
       go : (x : Bool) → acceptedBy f v ≡ x
-          → bankStep count first last c b
+          → bankCall count first last c b
           ≡ (cond x saysYes (refused (plain 12)), cond x (withBits b s (f .offset) p (f .width) i (toBits (f .width) v)) b)
       go true y =
           call-done count first last c b (entered-opened count first last b t) h l (tested true y) q

@@ -4,10 +4,9 @@ use lib.ListN.{length, getD, set}
 use lib.IntN.{ℤ}
 use lib.Signed.{mag}
 use Rattle.rules.specs.Numbers.{cut}
-use Rattle.rules.specs.Place.{laneByte, laneBit}
+use Rattle.rules.specs.Place.{laneByte, laneBit, Width}
 use Rattle.rules.specs.Layout.{bankSize, HasBytes, setStart}
 use Rattle.rules.specs.Bank.{Bank, merge}
-use Rattle.rules.proofs.Lanes.{Width}
 
 -- at least one bit, and no bit past the byte's end
 pub record Room (bit width : ℕ) : Type 0 where

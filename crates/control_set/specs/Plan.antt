@@ -12,11 +12,10 @@ use Rattle.rules.specs.declared.Entry.{Entry}
 use Rattle.rules.specs.Descriptor.{isApp, hasApp}
 use Rattle.rules.specs.Numbers.{bitOf, any}
 use Rattle.rules.specs.Parameter.{rowOf}
-use Rattle.rules.specs.Place.{partsOf, widthOf, signedOf}
+use Rattle.rules.specs.Place.{partsOf, widthOf, signedOf, Width}
 use Rattle.rules.specs.Layout.{bankSize, setStart}
 use Rattle.rules.specs.Refuse.{chooses}
 use Rattle.rules.specs.Bank.{Bank, appSelIn, loop}
-use Rattle.rules.proofs.Lanes.{Width}
 use Rattle.descriptor.specs.Find.{lowIn, highIn, hasCodes, listedOf, acceptedIn}
 use Rattle.control_set.specs.declared.plan.Chosen.{Chosen}
 use Rattle.control_set.specs.declared.plan.Fields.{Fields}

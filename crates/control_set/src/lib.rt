@@ -4,7 +4,7 @@ ghost use Prim.Native.Nat.{_≤_};
 ghost use lib.ListN.{length};
 ghost use Rattle.rules.specs.declared.Call.{Call};
 ghost use Rattle.rules.specs.Layout.{bankSize};
-ghost use Rattle.rules.specs.Bank.{freshBank, freshStep, bankStep};
+ghost use Rattle.rules.specs.Bank.{freshBank, freshCall, bankCall};
 ghost use Rattle.rules.specs.Beside.{weightCall};
 ghost use Rattle.descriptor.specs.Find.{acceptedBy};
 ghost use Rattle.control_set.specs.Gate.{refusedOf, byteRefused};
@@ -61,8 +61,8 @@ fn clear(bank: &mut [u8])
 
 // fresh: clears the bank and answers both entry counts and both lengths.
 pub fn fresh(count: usize, rw: &[u8], ro: &[u8], bank: &mut [u8]) -> Loaded
-    ensures answer { λ r. ⌜ r ≡ freshStep count (now (rw .entry)) (now (ro .entry)) (now (bank .entry)) .0 ⌝ }
-    ensures after { λ _. ⌜ now (bank .exit) ≡ freshStep count (now (rw .entry)) (now (ro .entry)) (now (bank .entry)) .1 ⌝ }
+    ensures answer { λ r. ⌜ r ≡ freshCall count (now (rw .entry)) (now (ro .entry)) (now (bank .entry)) .0 ⌝ }
+    ensures after { λ _. ⌜ now (bank .exit) ≡ freshCall count (now (rw .entry)) (now (ro .entry)) (now (bank .entry)) .1 ⌝ }
 {
     let g = admit(count, rw, ro, bank.len());
     match g {
@@ -94,8 +94,8 @@ pub fn select(
     lane: usize,
     app: usize,
 ) -> Answer
-    ensures answer { λ r. ⌜ r ≡ bankStep count (now (rw .entry)) (now (ro .entry)) (Call.Select set lane app) (now (bank .entry)) .0 ⌝ }
-    ensures after { λ _. ⌜ now (bank .exit) ≡ bankStep count (now (rw .entry)) (now (ro .entry)) (Call.Select set lane app) (now (bank .entry)) .1 ⌝ }
+    ensures answer { λ r. ⌜ r ≡ bankCall count (now (rw .entry)) (now (ro .entry)) (Call.Select set lane app) (now (bank .entry)) .0 ⌝ }
+    ensures after { λ _. ⌜ now (bank .exit) ≡ bankCall count (now (rw .entry)) (now (ro .entry)) (Call.Select set lane app) (now (bank .entry)) .1 ⌝ }
 {
     let g = admit(count, rw, ro, bank.len());
     if let Gate::Refused(r) = g {
@@ -150,8 +150,8 @@ pub fn write(
     lane: usize,
     value: i64,
 ) -> Answer
-    ensures answer { λ r. ⌜ r ≡ bankStep count (now (rw .entry)) (now (ro .entry)) (Call.Write set entry part lane value) (now (bank .entry)) .0 ⌝ }
-    ensures after { λ _. ⌜ now (bank .exit) ≡ bankStep count (now (rw .entry)) (now (ro .entry)) (Call.Write set entry part lane value) (now (bank .entry)) .1 ⌝ }
+    ensures answer { λ r. ⌜ r ≡ bankCall count (now (rw .entry)) (now (ro .entry)) (Call.Write set entry part lane value) (now (bank .entry)) .0 ⌝ }
+    ensures after { λ _. ⌜ now (bank .exit) ≡ bankCall count (now (rw .entry)) (now (ro .entry)) (Call.Write set entry part lane value) (now (bank .entry)) .1 ⌝ }
 {
     if !limits(count, rw, ro) {
         return Answer::Refused(Refusal::Plain(9));
@@ -171,8 +171,8 @@ fn write_within(
     lane: usize,
     value: i64,
 ) -> Answer
-    ensures answer { λ r. ⌜ r ≡ bankStep count (now (rw .entry)) (now (ro .entry)) (Call.Write set entry part lane value) (now (bank .entry)) .0 ⌝ }
-    ensures after { λ _. ⌜ now (bank .exit) ≡ bankStep count (now (rw .entry)) (now (ro .entry)) (Call.Write set entry part lane value) (now (bank .entry)) .1 ⌝ }
+    ensures answer { λ r. ⌜ r ≡ bankCall count (now (rw .entry)) (now (ro .entry)) (Call.Write set entry part lane value) (now (bank .entry)) .0 ⌝ }
+    ensures after { λ _. ⌜ now (bank .exit) ≡ bankCall count (now (rw .entry)) (now (ro .entry)) (Call.Write set entry part lane value) (now (bank .entry)) .1 ⌝ }
 {
     let found = admit_entry(count, rw, ro, bank.len(), entry);
     let Found::In(f) = found else {
@@ -201,7 +201,7 @@ pub fn read(
     part: usize,
     lane: usize,
 ) -> Answer
-    ensures answer { λ r. ⌜ r ≡ bankStep count (now (rw .entry)) (now (ro .entry)) (Call.Read set entry part lane) (now (bank .entry)) .0 ⌝ }
+    ensures answer { λ r. ⌜ r ≡ bankCall count (now (rw .entry)) (now (ro .entry)) (Call.Read set entry part lane) (now (bank .entry)) .0 ⌝ }
 {
     let found = admit_entry(count, rw, ro, bank.len(), entry);
     let Found::In(f) = found else {
@@ -237,8 +237,8 @@ pub fn byte_write(
     offset: usize,
     value: u8,
 ) -> Answer
-    ensures answer { λ r. ⌜ r ≡ bankStep count (now (rw .entry)) (now (ro .entry)) (Call.ByteWrite set offset value) (now (bank .entry)) .0 ⌝ }
-    ensures after { λ _. ⌜ now (bank .exit) ≡ bankStep count (now (rw .entry)) (now (ro .entry)) (Call.ByteWrite set offset value) (now (bank .entry)) .1 ⌝ }
+    ensures answer { λ r. ⌜ r ≡ bankCall count (now (rw .entry)) (now (ro .entry)) (Call.ByteWrite set offset value) (now (bank .entry)) .0 ⌝ }
+    ensures after { λ _. ⌜ now (bank .exit) ≡ bankCall count (now (rw .entry)) (now (ro .entry)) (Call.ByteWrite set offset value) (now (bank .entry)) .1 ⌝ }
 {
     let gate = admit_byte(count, rw, ro, bank.len(), set, offset);
     let Byte::Has(fields) = gate else {
@@ -264,7 +264,7 @@ pub fn byte_read(
     set: usize,
     offset: usize,
 ) -> Answer
-    ensures { λ r. ⌜ r ≡ bankStep count (now (rw .entry)) (now (ro .entry)) (Call.ByteRead set offset) (now (bank .entry)) .0 ⌝ }
+    ensures { λ r. ⌜ r ≡ bankCall count (now (rw .entry)) (now (ro .entry)) (Call.ByteRead set offset) (now (bank .entry)) .0 ⌝ }
 {
     let gate = admit_byte(count, rw, ro, bank.len(), set, offset);
     let Byte::Has(shown) = gate else {
@@ -287,8 +287,8 @@ pub fn publish(
     lane: usize,
     value: i64,
 ) -> Answer
-    ensures answer { λ r. ⌜ r ≡ bankStep count (now (rw .entry)) (now (ro .entry)) (Call.Publish entry part lane value) (now (bank .entry)) .0 ⌝ }
-    ensures after { λ _. ⌜ now (bank .exit) ≡ bankStep count (now (rw .entry)) (now (ro .entry)) (Call.Publish entry part lane value) (now (bank .entry)) .1 ⌝ }
+    ensures answer { λ r. ⌜ r ≡ bankCall count (now (rw .entry)) (now (ro .entry)) (Call.Publish entry part lane value) (now (bank .entry)) .0 ⌝ }
+    ensures after { λ _. ⌜ now (bank .exit) ≡ bankCall count (now (rw .entry)) (now (ro .entry)) (Call.Publish entry part lane value) (now (bank .entry)) .1 ⌝ }
 {
     let found = admit_entry(count, rw, ro, bank.len(), entry);
     let Found::In(f) = found else {
@@ -308,8 +308,8 @@ pub fn publish(
 
 // apply: copies the fields of the chosen lanes from a staged set to the active set, all or nothing.
 pub fn apply(count: usize, rw: &[u8], ro: &[u8], bank: &mut [u8], set: usize, lanes: u8) -> Answer
-    ensures answer { λ r. ⌜ r ≡ bankStep count (now (rw .entry)) (now (ro .entry)) (Call.Apply set lanes) (now (bank .entry)) .0 ⌝ }
-    ensures after { λ _. ⌜ now (bank .exit) ≡ bankStep count (now (rw .entry)) (now (ro .entry)) (Call.Apply set lanes) (now (bank .entry)) .1 ⌝ }
+    ensures answer { λ r. ⌜ r ≡ bankCall count (now (rw .entry)) (now (ro .entry)) (Call.Apply set lanes) (now (bank .entry)) .0 ⌝ }
+    ensures after { λ _. ⌜ now (bank .exit) ≡ bankCall count (now (rw .entry)) (now (ro .entry)) (Call.Apply set lanes) (now (bank .entry)) .1 ⌝ }
 {
     if !limits(count, rw, ro) {
         return Answer::Refused(Refusal::Plain(9));
@@ -351,8 +351,8 @@ pub fn apply(count: usize, rw: &[u8], ro: &[u8], bank: &mut [u8], set: usize, la
 
 // Any of the seven calls.
 pub fn perform(count: usize, rw: &[u8], ro: &[u8], bank: &mut [u8], call: Call) -> Answer
-    ensures answer { λ r. ⌜ r ≡ bankStep count (now (rw .entry)) (now (ro .entry)) call (now (bank .entry)) .0 ⌝ }
-    ensures after { λ _. ⌜ now (bank .exit) ≡ bankStep count (now (rw .entry)) (now (ro .entry)) call (now (bank .entry)) .1 ⌝ }
+    ensures answer { λ r. ⌜ r ≡ bankCall count (now (rw .entry)) (now (ro .entry)) call (now (bank .entry)) .0 ⌝ }
+    ensures after { λ _. ⌜ now (bank .exit) ≡ bankCall count (now (rw .entry)) (now (ro .entry)) call (now (bank .entry)) .1 ⌝ }
 {
     match call {
         Call::Select { set, lane, app } => select(count, rw, ro, bank, set, lane, app),

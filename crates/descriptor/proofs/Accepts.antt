@@ -17,8 +17,8 @@ use Rattle.rules.specs.Numbers.{bitOf, sum}
 use Rattle.rules.specs.Parameter.{Position, absent, after, Range, rows as tableRows, space, both, rowOf}
 use Rattle.rules.specs.Place.{partsOf, widthOf, signedOf}
 use Rattle.rules.specs.Accept.{within, inMask, inCodes, accepts}
-use Rattle.rules.proofs.Tests.{and₂, is-true, from-true, and-no}
-use Rattle.rules.proofs.Ids.{below, below-at, every-id}
+use Rattle.rules.proofs.Basics.Tests.{and₂, is-true, from-true, and-no}
+use Rattle.rules.proofs.Basics.Ids.{below, below-at, every-id}
 use Rattle.descriptor.specs.Find.{lowIn, highIn, codeMask, hasCodes, listedOf, namedOf, acceptedIn, acceptedBy}
 use Rattle.descriptor.proofs.TableRows.{same-test, only, only-then, eqZ, eqZ→eq}
 use Rattle.descriptor.proofs.Bits.{and-bit}

@@ -8,7 +8,7 @@ use Rattle.rules.specs.declared.Walked.the-variants.{Ended as ended}
 use Rattle.rules.specs.declared.Loaded.the-variants.{Accepted as accepted}
 use Rattle.rules.specs.Descriptor.{maskBytes}
 use Rattle.rules.specs.Load.{start, intoRO, walkOf, sized, loadOf}
-use Rattle.rules.proofs.Loads.{load-strings, strings-accepted}
+use Rattle.rules.proofs.Load.Loads.{load-strings, strings-accepted}
 
 module _ (count : ℕ) (first last : List ℕ) (fine : sized count first last ≡ true) (m e : State)
     (p : walkOf false (maskBytes count) first 0 start ≡ ended m) (q : walkOf true (maskBytes count) last 0 (intoRO m) ≡ ended e) where

@@ -1,5 +1,5 @@
--- The chain of checks as a step sees it: past a check that passes, out at one that fails.
--- And what a step reads of the row of its entry, in terms of document 01's table.
+-- The chain of checks as decoding sees it: past a check that passes, out at one that fails.
+-- And what decoding reads of the row of its entry, in terms of document 01's table.
 use mathlib.Core.Path.{_≡_, refl}
 use mathlib.Core.Bool.{Bool, true, false}
 use mathlib.Core.List.{List}
@@ -12,17 +12,17 @@ use Rattle.rules.specs.declared.State.{State}
 use Rattle.rules.specs.declared.Decoded.{Decoded}
 use Rattle.rules.specs.Parameter.{rowOf, Side, RW, RO, both, Position, absent, after}
 use Rattle.rules.specs.Descriptor.{byteAt, stepOf, mediaSide, mayStand, refuse}
-use Rattle.descriptor.specs.declared.step.Stepped.{Stepped}
-use Rattle.descriptor.specs.declared.step.Stepped.the-variants.{Refused as stops}
+use Rattle.descriptor.specs.declared.decode.Decoding.{Decoding}
+use Rattle.descriptor.specs.declared.decode.Decoding.the-variants.{Refused as stops}
 use Rattle.descriptor.specs.Rows.{cell}
-use Rattle.descriptor.specs.Steps.{steppedOf, stepBy, standsBy, Standing}
+use Rattle.descriptor.specs.Decode.{decodingOf, stepBy, standsBy, Standing}
 use Rattle.descriptor.proofs.TableRows.{row, sideNumber, placeNumber, Row}
 
-pub pass : (at : ℕ) (st : State) (n : ℕ) (d : Decoded) {b : Bool} {r : Stepped} → b ≡ false → r ≡ steppedOf at st d → r ≡ steppedOf at st (refuse b n d)
+pub pass : (at : ℕ) (st : State) (n : ℕ) (d : Decoded) {b : Bool} {r : Decoding} → b ≡ false → r ≡ decodingOf at st d → r ≡ decodingOf at st (refuse b n d)
 unfolding refuse
 pass at st n d e h = rw e h
 
-pub stop : (at : ℕ) (st : State) (n : ℕ) (d : Decoded) {b : Bool} → b ≡ true → stops n ≡ steppedOf at st (refuse b n d)
+pub stop : (at : ℕ) (st : State) (n : ℕ) (d : Decoded) {b : Bool} → b ≡ true → stops n ≡ decodingOf at st (refuse b n d)
 unfolding refuse
 stop at st n d e = rw e
 

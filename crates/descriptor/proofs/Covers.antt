@@ -17,11 +17,11 @@ use Rattle.rules.specs.Load.{Map, sized, loadOf, total, mapOf}
 use Rattle.rules.specs.Place.{nothing, entry, partsOf, widthOf, isRW, heldBy, lengthOf}
 use Rattle.rules.specs.Refuse.{check9, orderOf}
 use Rattle.rules.specs.Demands.{Accepted}
-use Rattle.rules.proofs.Tests.{and-no, and₂, from-true}
-use Rattle.rules.proofs.Good.{Good, starts}
-use Rattle.rules.proofs.Walks.{map-good}
-use Rattle.rules.proofs.EntryHeads.{Head, strings-short, length-most, few-entries}
-use Rattle.rules.proofs.Orders.{order-refused, order-accepted}
+use Rattle.rules.proofs.Basics.Tests.{and-no, and₂, from-true}
+use Rattle.rules.proofs.Place.AcceptedMap.{Good, starts}
+use Rattle.rules.proofs.Load.Walks.{map-good}
+use Rattle.rules.proofs.Load.EntryHeads.{Head, strings-short, length-most, few-entries}
+use Rattle.rules.proofs.Refusals.Orders.{order-refused, order-accepted}
 use Rattle.descriptor.specs.declared.Covered.{Covered}
 use Rattle.descriptor.specs.declared.Covered.the-variants.{By as by, Nothing as noEntry, Refused as notCovered}
 use Rattle.descriptor.specs.Cover.{spans, coverIndex, coverIn, coverOf, Hits}

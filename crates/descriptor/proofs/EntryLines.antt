@@ -23,11 +23,11 @@ use Rattle.rules.specs.Load.{loadOf, rwEntries}
 use Rattle.rules.specs.Place.{nothing, partsOf, widthOf, signedOf}
 use Rattle.rules.specs.Accept.{within}
 use Rattle.rules.specs.Demands.{Accepted}
-use Rattle.rules.proofs.Tests.{by-test}
-use Rattle.rules.proofs.Checks.{decode-passed}
-use Rattle.rules.proofs.Fills.{Filled, rw-filled}
-use Rattle.rules.proofs.EntryHeads.{strings-short}
-use Rattle.rules.proofs.Walks.{load-accepted}
+use Rattle.rules.proofs.Basics.Tests.{by-test}
+use Rattle.rules.proofs.Load.Checks.{decode-passed}
+use Rattle.rules.proofs.Load.Fills.{Filled, rw-filled}
+use Rattle.rules.proofs.Load.EntryHeads.{strings-short}
+use Rattle.rules.proofs.Load.Walks.{load-accepted}
 use Rattle.descriptor.specs.declared.Named.{Named}
 use Rattle.descriptor.specs.Rows.{fields, classOf, cell}
 use Rattle.descriptor.specs.Find.{lowIn, highIn, codeMask, hasCodes, listedOf, namedOf}

@@ -13,8 +13,8 @@ use Rattle.rules.specs.Place.{entry, isRW, partsOf, widthOf, signedOf}
 use Rattle.rules.specs.Refuse.{Verdict, passes, refuses, firstOf, check9, check1to7, orderOf}
 use Rattle.rules.specs.Beside.{entryVerdict}
 use Rattle.rules.specs.Demands.{Accepted}
-use Rattle.rules.proofs.EntryParts.{verdict-passes}
-use Rattle.rules.proofs.EntryHeads.{Head, entry-head, strings-short}
+use Rattle.rules.proofs.Load.EntryBytes.{verdict-passes}
+use Rattle.rules.proofs.Load.EntryHeads.{Head, entry-head, strings-short}
 use Rattle.descriptor.specs.declared.Located.the-variants.{At as at, Refused as nowhere}
 use Rattle.descriptor.specs.declared.Named.{Named}
 use Rattle.descriptor.specs.declared.Found.the-variants.{In as isIn, Refused as notFound}

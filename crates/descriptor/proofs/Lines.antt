@@ -15,10 +15,10 @@ use Rattle.rules.specs.declared.Refusal.the-variants.{AtEntry as atEntry}
 use Rattle.rules.specs.Descriptor.{entryAt, decodeAt}
 use Rattle.rules.specs.Load.{next, foldBy, foldOf, onward, walkOf, gather, entriesFrom}
 use Rattle.rules.specs.MapProgram.{entryLines}
-use Rattle.rules.proofs.Checks.{Passed, decode-passed}
-use Rattle.rules.proofs.Folds.{Folded, begin, turn, done, out, more, done-by, turn-by}
-use Rattle.descriptor.specs.declared.step.Stepped.the-variants.{Refused as stops}
-use Rattle.descriptor.specs.Steps.{steppedOf}
+use Rattle.rules.proofs.Load.Checks.{Passed, decode-passed}
+use Rattle.rules.proofs.Load.Folds.{Folded, begin, turn, done, out, more, done-by, turn-by}
+use Rattle.descriptor.specs.declared.decode.Decoding.the-variants.{Refused as stops}
+use Rattle.descriptor.specs.Decode.{decodingOf}
 use Rattle.descriptor.specs.Text.{Put, entryLine, Listing}
 use Rattle.descriptor.proofs.Puts.{put-then, put-most}
 use Rattle.descriptor.proofs.Scan.{Went}
@@ -70,7 +70,7 @@ module _ {ro : Bool} {a : ℕ} {s : List ℕ} {st₀ : State} {at : ℕ} {st : S
         }
 
 -- what a step that refuses says of its decode
-pub failed-by : (at : ℕ) (st : State) (d : Decoded) (n : ℕ) → steppedOf at st d ≡ stops n → d ≡ failed n
+pub failed-by : (at : ℕ) (st : State) (d : Decoded) (n : ℕ) → decodingOf at st d ≡ stops n → d ≡ failed n
 failed-by at st (decoded e) n h = let o : _≡_ {A = ℕ} 0 1 = cc in absurd (omega arith)
 failed-by at st (failed k) n h = let o : k ≡ n = cc in ap failed o
 

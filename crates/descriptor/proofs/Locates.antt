@@ -16,9 +16,9 @@ use Rattle.rules.specs.Place.{entry, isRW}
 use Rattle.rules.specs.Refuse.{Verdict, passes, refuses}
 use Rattle.rules.specs.Beside.{entryVerdict, answered, entryAnswer, ownBytes, partOr, entryBytes}
 use Rattle.rules.specs.Demands.{Accepted}
-use Rattle.rules.proofs.Orders.{order-refused, order-accepted}
-use Rattle.rules.proofs.EntryHeads.{Head}
-use Rattle.rules.proofs.EntryParts.{entry-part, verdict-passes}
+use Rattle.rules.proofs.Refusals.Orders.{order-refused, order-accepted}
+use Rattle.rules.proofs.Load.EntryHeads.{Head}
+use Rattle.rules.proofs.Load.EntryBytes.{entry-part, verdict-passes}
 use Rattle.descriptor.specs.declared.search.Mark.{Mark}
 use Rattle.descriptor.specs.declared.Located.{Located}
 use Rattle.descriptor.specs.declared.Located.the-variants.{At as at, Refused as nowhere}

@@ -15,10 +15,10 @@ use Rattle.rules.specs.Descriptor.{maskBytes, byteAt}
 use Rattle.rules.specs.Load.{start, intoRO, walkOf, sized, loadOf, entriesOf}
 use Rattle.rules.specs.Demands.{Accepted}
 use Rattle.rules.specs.MapProgram.{rwSize, roSize, rwBytes, roBytes, heading, endLine, refusedLine, mapText, mapOutput}
-use Rattle.rules.proofs.Tests.{and₄, is-true}
-use Rattle.rules.proofs.Walks.{Map-accepted, load-accepted, walk-counts}
-use Rattle.rules.proofs.Lines.{lines-both}
-use Rattle.rules.proofs.MapInput.{map-short, map-whole}
+use Rattle.rules.proofs.Basics.Tests.{and₄, is-true}
+use Rattle.rules.proofs.Load.Walks.{Map-accepted, load-accepted, walk-counts}
+use Rattle.rules.proofs.Program.Lines.{lines-both}
+use Rattle.rules.proofs.Program.MapInput.{map-short, map-whole}
 use Rattle.descriptor.specs.Text.{Put, Printed, Listing}
 use Rattle.descriptor.proofs.Both.{both-load}
 use Rattle.descriptor.proofs.Puts.{put-then, printed}

@@ -15,11 +15,11 @@ use Rattle.rules.specs.Descriptor.{maskBytes, byteAt}
 use Rattle.rules.specs.Load.{loadOf, rwEntries, roEntries, entriesOf, total, mapOf}
 use Rattle.rules.specs.Place.{nothing, entry}
 use Rattle.rules.specs.Demands.{Accepted, lengths}
-use Rattle.rules.proofs.Tests.{by-test}
-use Rattle.rules.proofs.Good.{Good}
-use Rattle.rules.proofs.Walks.{Map-accepted, load-accepted, total-append}
-use Rattle.rules.proofs.Fills.{Filled, filled-nth, stands-start, rw-filled, ro-filled}
-use Rattle.rules.proofs.EntryHeads.{Head, filled-head, strings-short, lengths-next, total-next}
+use Rattle.rules.proofs.Basics.Tests.{by-test}
+use Rattle.rules.proofs.Place.AcceptedMap.{Good}
+use Rattle.rules.proofs.Load.Walks.{Map-accepted, load-accepted, total-append}
+use Rattle.rules.proofs.Load.Fills.{Filled, filled-nth, stands-start, rw-filled, ro-filled}
+use Rattle.rules.proofs.Load.EntryHeads.{Head, filled-head, strings-short, lengths-next, total-next}
 use Rattle.descriptor.specs.declared.search.Mark.{Mark}
 use Rattle.descriptor.specs.Marks.{OnEntry, markAfter, Passable}
 

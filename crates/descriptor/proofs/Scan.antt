@@ -13,11 +13,11 @@ use Rattle.rules.specs.declared.Walked.{Walked}
 use Rattle.rules.specs.declared.Walked.the-variants.{Ended as ended}
 use Rattle.rules.specs.Descriptor.{decodeAt}
 use Rattle.rules.specs.Load.{next, onward}
-use Rattle.rules.proofs.Checks.{decode-passed}
-use Rattle.rules.proofs.Folds.{Folded, begin, turn}
-use Rattle.descriptor.specs.declared.step.Stepped.{Stepped}
-use Rattle.descriptor.specs.declared.step.Stepped.the-variants.{Past as past, Refused as stops}
-use Rattle.descriptor.specs.Steps.{steppedOf}
+use Rattle.rules.proofs.Load.Checks.{decode-passed}
+use Rattle.rules.proofs.Load.Folds.{Folded, begin, turn}
+use Rattle.descriptor.specs.declared.decode.Decoding.{Decoding}
+use Rattle.descriptor.specs.declared.decode.Decoding.the-variants.{Past as past, Refused as stops}
+use Rattle.descriptor.specs.Decode.{decodingOf}
 use Rattle.descriptor.specs.Walks.{stoppedOf}
 
 -- what a step that goes past an entry says of its decode
@@ -27,14 +27,14 @@ pub record Went (at : ℕ) (st : State) (d : Decoded) (place : ℕ) (after : Sta
   pub to : place ≡ at + e .length
   pub keeps : after ≡ next st e
 
-pub went : (at : ℕ) (st : State) (d : Decoded) (place : ℕ) (after : State) → steppedOf at st d ≡ past place after → Went at st d place after
+pub went : (at : ℕ) (st : State) (d : Decoded) (place : ℕ) (after : State) → decodingOf at st d ≡ past place after → Went at st d place after
 went at st (decoded e) place after h = record { e = e; decodes = refl; to = cc; keeps = cc }
 went at st (failed n) place after h = let o : _≡_ {A = ℕ} 0 1 = cc in absurd (omega arith)
 
 -- a step that refuses ends the walk with its entry's number
 pub halts :
-    (at : ℕ) (st : State) (d : Decoded) (x : Stepped) (n : ℕ) (r : Entry → Walked)
-    → x ≡ steppedOf at st d
+    (at : ℕ) (st : State) (d : Decoded) (x : Decoding) (n : ℕ) (r : Entry → Walked)
+    → x ≡ decodingOf at st d
     → x ≡ stops n
     → stoppedOf x (st .number) ≡ onward d st r
 halts at st (decoded e) x n r p q = let o : _≡_ {A = ℕ} 0 1 = cc in absurd (omega arith)

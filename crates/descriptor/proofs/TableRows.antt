@@ -10,9 +10,9 @@ use Rattle.rules.specs.Numbers.{sum}
 use Rattle.rules.specs.Parameter.{Row as TableRow, rowOf, rows as tableRows, space, Side, RW, RO, both, Position, absent, after}
 use Rattle.rules.specs.Place.{partsOf, widthOf}
 use Rattle.rules.specs.Accept.{within}
-use Rattle.rules.proofs.Tests.{and₂, and₄}
-use Rattle.rules.proofs.Rows.{looked-up}
-use Rattle.rules.proofs.Ids.{every-id}
+use Rattle.rules.proofs.Basics.Tests.{and₂, and₄}
+use Rattle.rules.proofs.Table.Rows.{looked-up}
+use Rattle.rules.proofs.Basics.Ids.{every-id}
 use Rattle.descriptor.specs.Rows.{classes, rows, fields, listed, classOf, cell}
 use Rattle.descriptor.specs.Find.{lowIn, highIn, codeMask, hasCodes}
 

@@ -16,7 +16,7 @@ use Rattle.rules.specs.Descriptor.{byteAt, codesOf, entryAt}
 use Rattle.rules.specs.Place.{partsOf, widthOf, signedOf}
 use Rattle.descriptor.specs.declared.Named.{Named}
 use Rattle.descriptor.specs.Rows.{rows, fields, listed, classOf, cell}
-use Rattle.descriptor.specs.Steps.{stepBy}
+use Rattle.descriptor.specs.Decode.{stepBy}
 use Rattle.descriptor.specs.Wide.{codesBy}
 use Rattle.descriptor.specs.Find.{codeMask, hasCodes, namedOf}
 use Rattle.descriptor.proofs.TableRows.{placeNumber, row, line}

@@ -1,6 +1,6 @@
 -- What the functions of this crate mean beyond the rules: the rows as they stand in the code, the step of a walk, and a pass over a string.
 pub mod Rows
-pub mod Steps
+pub mod Decode
 pub mod Walks
 pub mod Locate
 pub mod Marks

@@ -7,12 +7,12 @@ use Rattle.rules.specs.declared.State.{State}
 use Rattle.rules.specs.declared.Refusal.the-variants.{AtEntry as atEntry}
 use Rattle.rules.specs.declared.Walked.{Walked}
 use Rattle.rules.specs.declared.Walked.the-variants.{Refused as stopped}
-use Rattle.descriptor.specs.declared.step.Stepped.{Stepped}
-use Rattle.descriptor.specs.declared.step.Stepped.the-variants.{Past as past, Refused as stops}
+use Rattle.descriptor.specs.declared.decode.Decoding.{Decoding}
+use Rattle.descriptor.specs.declared.decode.Decoding.the-variants.{Past as past, Refused as stops}
 use Rattle.descriptor.specs.Rows.{classes, rows}
 
 -- a refusal with its entry's number
-abbrev pub stoppedOf : Stepped → ℕ → Walked
+abbrev pub stoppedOf : Decoding → ℕ → Walked
 stoppedOf (past at st) n = stopped (atEntry 0 n)
 stoppedOf (stops k) n = stopped (atEntry k n)
 

@@ -17,12 +17,13 @@ pub mod columns; // the columns of an entry's line
 mod table; // document 01's table: constant rows by ID class
 mod rows; // the row of an ID
 mod state; // what a walk keeps
-mod step; // one entry: the checks 1 to 7
+mod decode; // one entry: the checks 1 to 7
 mod walk; // one string
 mod reading; // one entry: what a call needs of it
 mod search; // an entry by its number, and by a byte of its space
 mod text; // the map program's text
 
+use crate::decode::byte_at;
 use crate::reading::lines_at;
 use crate::reading::named_at;
 use crate::rows::class_of;
@@ -30,7 +31,6 @@ use crate::search::look;
 use crate::search::seek;
 use crate::state::into_ro;
 use crate::state::start;
-use crate::step::byte_at;
 use crate::table::CLASSES;
 use crate::table::FIELDS;
 use crate::table::LEAST;

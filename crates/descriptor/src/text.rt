@@ -10,12 +10,12 @@ ghost use Rattle.rules.specs.Demands.{Accepted};
 ghost use Rattle.rules.specs.MapProgram.{decimal, endLine, refusedLine, mapText};
 ghost use Rattle.descriptor.specs.Walks.{Ready};
 ghost use Rattle.descriptor.specs.Text.{Put, Printed, entryLine, Printable, Listing};
+use crate::decode::Decoding;
+use crate::decode::decode;
 use crate::load;
 use crate::mask_bytes;
 use crate::state::into_ro;
 use crate::state::start;
-use crate::step::Stepped;
-use crate::step::step;
 use crate::table::CLASSES;
 use crate::table::ROWS;
 use rules::Loaded;
@@ -116,8 +116,8 @@ fn put_entries(
     let mut st = begin;
     let mut line = at;
     while from < s.len() {
-        let d = step(classes, rows, in_ro, a, s, from, st);
-        let Stepped::Past(place, after) = d else {
+        let d = decode(classes, rows, in_ro, a, s, from, st);
+        let Decoding::Past(place, after) = d else {
             return Listed { at: line, end: st };
         };
         line = put_entry(out, line, a, s, from, st);

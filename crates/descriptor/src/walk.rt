@@ -4,20 +4,20 @@ ghost use Rattle.rules.specs.declared.Loaded.the-variants.{Refused as rejected}
 ghost use Rattle.rules.specs.declared.Refusal.the-variants.{Plain as plain};
 ghost use Rattle.rules.specs.Load.{walkOf, sized, after};
 ghost use Rattle.descriptor.specs.Walks.{stoppedOf, Ready};
-use crate::step::Stepped;
-use crate::step::step;
+use crate::decode::Decoding;
+use crate::decode::decode;
 use rules::Loaded;
 use rules::Refusal;
 use rules::State;
 use rules::Walked;
 
 // A refusal leaves with its entry's number.
-fn stopped(d: Stepped, number: usize) -> Walked
+fn stopped(d: Decoding, number: usize) -> Walked
     ensures { λ r. ⌜ r ≡ stoppedOf d number ⌝ }
 {
     match d {
-        Stepped::Past(_, _) => Walked::Refused(Refusal::AtEntry(0, number)),
-        Stepped::Refused(n) => Walked::Refused(Refusal::AtEntry(n, number)),
+        Decoding::Past(_, _) => Walked::Refused(Refusal::AtEntry(0, number)),
+        Decoding::Refused(n) => Walked::Refused(Refusal::AtEntry(n, number)),
     }
 }
 
@@ -37,8 +37,8 @@ pub fn scan(
     let mut at = from;
     let mut st = begin;
     while at < s.len() {
-        let d = step(classes, rows, in_ro, a, s, at, st);
-        let Stepped::Past(place, after) = d else {
+        let d = decode(classes, rows, in_ro, a, s, at, st);
+        let Decoding::Past(place, after) = d else {
             return stopped(d, st.number);
         };
         at = place;

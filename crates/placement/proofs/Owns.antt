@@ -13,12 +13,12 @@ use Rattle.rules.specs.Load.{Map, mapOf}
 use Rattle.rules.specs.Place.{entry, partsOf, widthOf, isSet, isStaged, heldBy, lengthOf, ownerOf}
 use Rattle.rules.specs.Beside.{ownedAs, isBit, ownerCall}
 use Rattle.rules.specs.Demands.{Accepted}
-use Rattle.rules.proofs.Tests.{and₃, is-false, from-true, and-no}
-use Rattle.rules.proofs.Good.{GoodMap}
-use Rattle.rules.proofs.Walks.{map-good}
-use Rattle.rules.proofs.EntryHeads.{entry-fits}
-use Rattle.rules.proofs.OwnerAt.{owner-field, owner-surplus}
-use Rattle.rules.proofs.PlaceCalls.{owner-10, owner-is, space-in-set, space-held}
+use Rattle.rules.proofs.Basics.Tests.{and₃, is-false, from-true, and-no}
+use Rattle.rules.proofs.Place.AcceptedMap.{GoodMap}
+use Rattle.rules.proofs.Load.Walks.{map-good}
+use Rattle.rules.proofs.Load.EntryHeads.{entry-fits}
+use Rattle.rules.proofs.Place.OwnerAt.{owner-field, owner-surplus}
+use Rattle.rules.proofs.Place.PlaceCalls.{owner-10, owner-is, space-in-set, space-held}
 use Rattle.descriptor.proofs.TableRows.{parts-few, width-narrow}
 use Rattle.descriptor.proofs.Covers.{Covering}
 use Rattle.placement.specs.Owner.{fieldIn}

@@ -10,8 +10,8 @@ use Rattle.rules.specs.declared.Placed.the-variants.{At as placedAt, Refused as
 use Rattle.rules.specs.Load.{Map, mapOf}
 use Rattle.rules.specs.Place.{entry, partsOf, widthOf, isSet, isStaged, isLane}
 use Rattle.rules.specs.Beside.{placeOf}
-use Rattle.rules.proofs.EntryHeads.{entry-fits}
-use Rattle.rules.proofs.PlaceCalls.{place-10, place-11, place-at}
+use Rattle.rules.proofs.Load.EntryHeads.{entry-fits}
+use Rattle.rules.proofs.Place.PlaceCalls.{place-10, place-11, place-at}
 use Rattle.descriptor.specs.declared.Named.{Named}
 use Rattle.descriptor.specs.Find.{InMap}
 use Rattle.descriptor.proofs.Finds.{offset-is, parts-is, width-is, side-is}

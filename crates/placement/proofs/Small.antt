@@ -8,7 +8,7 @@ use lib.Dec.{ltb, leb, ltb→lt, leb→le}
 use mir.Val.{Fits}
 use mir.Syntax.{w64}
 use Rattle.rules.specs.Place.{isSet, isLane}
-use Rattle.rules.proofs.Tests.{and₄, from-true}
+use Rattle.rules.proofs.Basics.Tests.{and₄, from-true}
 
 product : (a b : ℕ) → a < 16 → b < 16 → a * b ≤ 225
 product a b h k = let l : a ≤ 15 = omega arith in let u : b ≤ 15 = omega arith in mul-le-mul l u

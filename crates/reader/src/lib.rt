@@ -1,36 +1,36 @@
 // Reading one descriptor string entry by entry: a reader over the lent string that keeps its position.
 ghost use mathlib.Core.Path.{_≡_};
-ghost use Rattle.reader.specs.Step.{refusedAt, steppedOf, readerOf, takenBy, movedBy};
+ghost use Rattle.reader.specs.Take.{refusedAt, takingOf, readerOf, takenBy, movedBy};
 use descriptor::least_length;
 use descriptor::limits;
 use rules::Refusal;
 use rules::Taken;
 
-// What a step gives, and the position after it: another one only past an entry.
-pub struct Stepped {
+// What a reader takes, and the position after it: another one only past an entry.
+pub struct Taking {
     pub taken: Taken,
     pub at: usize,
 }
 
 // A refusal leaves the position as it is.
-fn refused(number: usize, at: usize) -> Stepped
+fn refused(number: usize, at: usize) -> Taking
     ensures { λ r. ⌜ r ≡ refusedAt number at ⌝ }
 {
-    Stepped {
+    Taking {
         taken: Taken::Refused(Refusal::Plain(number)),
         at,
     }
 }
 
-// The step over a string and a position: 9, the end, 1, 2, and past the entry.
-fn step_at(count: usize, s: &[u8], at: usize) -> Stepped
-    ensures { λ r. ⌜ r ≡ steppedOf count (now (s .entry)) at ⌝ }
+// What is taken from a string at a position: 9, the end, 1, 2, and past the entry.
+fn take_at(count: usize, s: &[u8], at: usize) -> Taking
+    ensures { λ r. ⌜ r ≡ takingOf count (now (s .entry)) at ⌝ }
 {
     if !limits(count, s, &s[..0]) {
         return refused(9, at);
     }
     if s.len() <= at {
-        return Stepped {
+        return Taking {
             taken: Taken::End,
             at,
         };
@@ -49,7 +49,7 @@ fn step_at(count: usize, s: &[u8], at: usize) -> Stepped
         return refused(2, at);
     }
     let next = at + length;
-    Stepped {
+    Taking {
         taken: Taken::Part { start: at, length },
         at: next,
     }
@@ -68,20 +68,20 @@ pub fn new<'a>(src: &'a [u8]) -> Reader<'a>
     Reader { src, at: 0 }
 }
 
-// A step, with the count of applications: the next entry's start and length, a refusal, or the end.
-pub fn step<'s, 'a>(r: &'s mut Reader<'a>, count: usize) -> Taken
+// Takes, with the count of applications: the next entry's start and length, a refusal, or the end.
+pub fn take<'s, 'a>(r: &'s mut Reader<'a>, count: usize) -> Taken
     ensures { λ t. ⌜ (t ≡ takenBy count (now (r .entry))) × (now (r .exit) ≡ movedBy count (now (r .entry))) ⌝ }
 {
-    let x = step_at(count, r.src, r.at);
+    let x = take_at(count, r.src, r.at);
     r.at = x.at;
     x.taken
 }
 
-// The step of a reader that stands at a position, and the position after it.
-pub fn take(count: usize, src: &[u8], at: usize) -> Stepped
-    ensures { λ r. ⌜ r ≡ steppedOf count (now (src .entry)) at ⌝ }
+// What a reader that stands at a position takes, and the position after it.
+pub fn take_from(count: usize, src: &[u8], at: usize) -> Taking
+    ensures { λ r. ⌜ r ≡ takingOf count (now (src .entry)) at ⌝ }
 {
     let mut r = Reader { src, at };
-    let taken = step(&mut r, count);
-    Stepped { taken, at: r.at }
+    let taken = take(&mut r, count);
+    Taking { taken, at: r.at }
 }

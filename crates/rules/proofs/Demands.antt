@@ -1,10 +1,10 @@
 -- The demands of document 01 and where each is proved. Open this file first; the statements are in specs/Demands.antt.
 use Rattle.rules.specs.Demands.{Demand1, Demand2, Demand3, Demand3-after-fresh, Twelve}
-use Rattle.rules.proofs.Refusals.{refusals}
-use Rattle.rules.proofs.PlaceOwner.{both-ways}
-use Rattle.rules.proofs.Lists.{lists-agree}
-use Rattle.rules.proofs.Fresh.{lists-agree-after-fresh}
-use Rattle.rules.proofs.Settings.{settings}
+use Rattle.rules.proofs.Refusals.Whole.{refusals}
+use Rattle.rules.proofs.Place.PlaceOwner.{both-ways}
+use Rattle.rules.proofs.Lists.Lists.{lists-agree}
+use Rattle.rules.proofs.Lists.Fresh.{lists-agree-after-fresh}
+use Rattle.rules.proofs.Worked.Settings.{settings}
 
 -- a call is refused exactly by the first rule of 01's order that applies, and then changes no byte
 pub demand1 : Demand1

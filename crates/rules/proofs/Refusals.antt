@@ -1,27 +1,14 @@
--- DEMAND 1: every field of `Refusals`, for any strings, count and bank.
-use Rattle.rules.specs.Demands.{Demand1}
-use Rattle.rules.proofs.EntryRules.{entry-says}
-use Rattle.rules.proofs.MediaWay.{way-media}
-use Rattle.rules.proofs.Refused.{call-says, fresh-says, load-says, place-says, owner-says, own-entry-says, weight-says}
-use Rattle.rules.proofs.EntryParts.{part-empty}
-use Rattle.rules.proofs.ReaderRules.{take-says, take-end-says}
-use Rattle.rules.proofs.Keeps.{call-keeps, fresh-keeps}
-
-pub refusals : Demand1
-refusals count rw ro b =
-    record {
-      one-entry = entry-says;
-      media = way-media;
-      call = call-says count rw ro b;
-      fresh = fresh-says count rw ro b;
-      load = load-says count rw ro;
-      place = place-says count rw ro;
-      owner = owner-says count rw ro;
-      own-entry = own-entry-says count rw ro;
-      own-part = part-empty count rw ro;
-      weight = weight-says count rw ro b;
-      reader = take-says count;
-      reader-end = take-end-says count;
-      call-keeps = call-keeps count rw ro b;
-      fresh-keeps = fresh-keeps count rw ro b;
-    }
+-- The order of refusals, and the condition of each.
+pub mod Verdicts
+pub mod Orders
+pub mod CallOrder
+pub mod Firsts
+pub mod EntryRules
+pub mod MediaSide
+pub mod Stops
+pub mod PlanRules
+pub mod OrderRules
+pub mod ReaderRules
+pub mod Refused
+pub mod BankKept
+pub mod Whole

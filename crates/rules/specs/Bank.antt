@@ -111,8 +111,8 @@ bankDoes m (publish e p i v) b = (saysYes, withNumber m b 2 e p i v)
 bankDoes m (apply s lanes) b = (saysYes, applyBank m s lanes b)
 
 -- a call on a bank
-unfoldable pub bankStep : ℕ → List ℕ → List ℕ → Call → Bank → Answer × Bank
-bankStep count rw ro c b =
+unfoldable pub bankCall : ℕ → List ℕ → List ℕ → Call → Bank → Answer × Bank
+bankCall count rw ro c b =
     decide (bankOrder count rw ro (length b) (judge (mapOf count rw ro) c ++ bankPlan (mapOf count rw ro) c b)) b (bankDoes (mapOf count rw ro) c b)
 
 -- "clears the 784 bytes"; "Longer buffers are untouched beyond."
@@ -124,9 +124,9 @@ abbrev pub freshened : Verdict → Loaded → Bank → Loaded × Bank
 freshened passes answer b = (answer, freshBank b)
 freshened (refuses r) answer b = (rejected r, b)
 
-unfoldable pub freshStep : ℕ → List ℕ → List ℕ → Bank → Loaded × Bank
-freshStep count rw ro b = freshened (bankOrder count rw ro (length b) []) (loadOf count rw ro) b
+unfoldable pub freshCall : ℕ → List ℕ → List ℕ → Bank → Loaded × Bank
+freshCall count rw ro b = freshened (bankOrder count rw ro (length b) []) (loadOf count rw ro) b
 
 -- what the bank makes of each thing that a list holds
 unfoldable pub bankMakes : ℕ → List ℕ → List ℕ → Command → Bank → Answer × Bank
-bankMakes count rw ro (call c) b = bankStep count rw ro c b
+bankMakes count rw ro (call c) b = bankCall count rw ro c b

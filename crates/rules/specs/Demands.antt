@@ -14,7 +14,7 @@ use Rattle.rules.specs.Load.{start, Map, loadOf, rwEntries, roEntries, t
 use Rattle.rules.specs.Place.{nothing, entry, partsOf, widthOf, signedOf, isRW, lengthOf, holds, fieldByte, fieldBit, covers}
 use Rattle.rules.specs.Accept.{accepts, toBits, fromBits, weightOf}
 use Rattle.rules.specs.Layout.{bankSize, HasBytes, setStart}
-use Rattle.rules.specs.Bank.{Bank, numberIn, appSelIn, bankStep, freshStep, bankMakes}
+use Rattle.rules.specs.Bank.{Bank, numberIn, appSelIn, bankCall, freshCall, bankMakes}
 use Rattle.rules.specs.Table.{Table, freshTable, tableMakes}
 use Rattle.rules.specs.Machine.{Command, run}
 use Rattle.rules.specs.Beside.{placeOf, ownerCall, entryAnswer, entryBytes, weightCall}
@@ -39,8 +39,8 @@ pub record Refusals (count : ℕ) (rw ro : List ℕ) (b : Bank) : Type 0 where
   pub media : (a : ℕ) (s : List ℕ) (at : ℕ) (st : State) (w : Way false a s at st 0 start) → (st .media ≡ true) ↔ PastMedia w
   -- the calls of demand 3, fresh, and the calls beside: a refusal is answered exactly if it is the first in 01's order
   pub call : (c : Call) (x : Refusal)
-      → (bankStep count rw ro c b .0 ≡ refused x) ↔ First (bankRules count rw ro b (callRules (mapOf count rw ro) c ++ planRules (mapOf count rw ro) c b)) x
-  pub fresh : (x : Refusal) → (freshStep count rw ro b .0 ≡ rejected x) ↔ First (bankRules count rw ro b []) x
+      → (bankCall count rw ro c b .0 ≡ refused x) ↔ First (bankRules count rw ro b (callRules (mapOf count rw ro) c ++ planRules (mapOf count rw ro) c b)) x
+  pub fresh : (x : Refusal) → (freshCall count rw ro b .0 ≡ rejected x) ↔ First (bankRules count rw ro b []) x
   pub load : (x : Refusal) → (loadOf count rw ro ≡ rejected x) ↔ First (stringRules count rw ro []) x
   pub place : (s e p i : ℕ) (x : Refusal)
       → (placeOf count rw ro s e p i ≡ notPlaced x) ↔ First (stringRules count rw ro (callRules (mapOf count rw ro) (read s e p i))) x
@@ -62,8 +62,8 @@ pub record Refusals (count : ℕ) (rw ro : List ℕ) (b : Bank) : Type 0 where
   pub reader : (s : List ℕ) (position : ℕ) (x : Refusal) → (takeOf count s position ≡ notTaken x) ↔ First (readerRules count s position) x
   pub reader-end : (s : List ℕ) (position : ℕ) → (takeOf count s position ≡ noMore) ↔ (ReaderSized count s × (length s ≤ position))
   -- "every lent byte keeps its content"; "Longer buffers are untouched beyond."
-  pub call-keeps : (c : Call) → Keeps b (bankStep count rw ro c b .1) ((x : Refusal) × (bankStep count rw ro c b .0 ≡ refused x))
-  pub fresh-keeps : Keeps b (freshStep count rw ro b .1) ((x : Refusal) × (freshStep count rw ro b .0 ≡ rejected x))
+  pub call-keeps : (c : Call) → Keeps b (bankCall count rw ro c b .1) ((x : Refusal) × (bankCall count rw ro c b .0 ≡ refused x))
+  pub fresh-keeps : Keeps b (freshCall count rw ro b .1) ((x : Refusal) × (freshCall count rw ro b .0 ≡ rejected x))
 
 abbrev pub Demand1 : Type 0
 Demand1 = (count : ℕ) (rw ro : List ℕ) (b : Bank) → Refusals count rw ro b
@@ -174,7 +174,7 @@ pub record Shows (m : Map) (b : Bank) (t : Table) : Type 0 where
 
 -- the two machines on a list of calls, each from what its fresh left
 abbrev pub bankRun : ℕ → List ℕ → List ℕ → Bank → List Command → List Answer × Bank
-bankRun count rw ro bank calls = run (bankMakes count rw ro) calls (freshStep count rw ro bank .1)
+bankRun count rw ro bank calls = run (bankMakes count rw ro) calls (freshCall count rw ro bank .1)
 
 abbrev pub tableRun : ℕ → List ℕ → List ℕ → List Command → List Answer × Table
 tableRun count rw ro calls = run (tableMakes count rw ro) calls freshTable
@@ -201,7 +201,7 @@ pub record FreshAccepted (count : ℕ) (rw ro : List ℕ) (bank : Bank) : Type 0
   pub roCount : ℕ
   pub staged : ℕ
   pub active : ℕ
-  pub fresh : freshStep count rw ro bank .0 ≡ accepted rwCount roCount staged active
+  pub fresh : freshCall count rw ro bank .0 ≡ accepted rwCount roCount staged active
 
 -- "Before a list of demand 3 stands an accepted fresh": the same, with that as the only premise
 abbrev pub Demand3-after-fresh : Type 0

@@ -17,3 +17,4 @@ pub mod MapProgram
 pub mod Columns
 pub mod Conditions
 pub mod Demands
+pub mod Footprint

@@ -1,12 +1,13 @@
 -- "Where a field lies": the fields of a map, their places, and the owner of a bit.
+use mathlib.Core.Path.{_≡_}
 use mathlib.Core.Bool.{Bool, false, _&&_, cond}
-use Prim.Native.Nat.{ℕ, zero, suc, _+_, _-_, _*_, _/_, _%_}
+use Prim.Native.Nat.{ℕ, zero, suc, _+_, _-_, _*_, _/_, _%_, _≤_, _<_}
 use lib.ListN.{length, getD}
 use lib.Dec.{ltb, leb, eqb}
 use Rattle.rules.specs.Words.{Entry}
 use Rattle.rules.specs.Parameter.{rowOf}
 use Rattle.rules.specs.Load.{Map}
-use Rattle.rules.specs.Layout.{hasBytes}
+use Rattle.rules.specs.Layout.{HasBytes, hasBytes}
 
 -- what stands past the last entry: an entry without fields
 abbrev pub nothing : Entry
@@ -22,6 +23,11 @@ partsOf e = rowOf (e .id) .parts
 -- "W is the bits a lane."
 unfoldable pub widthOf : Entry → ℕ
 widthOf e = rowOf (e .id) .width
+
+-- W divides 8: so many lanes fill a byte
+pub record Width (w : ℕ) : Type 0 where
+  pub lanes : ℕ
+  pub fills : lanes * w ≡ 8
 
 -- "A field of 11h or 12h holds a two's complement number, any other an unsigned one."
 unfoldable pub signedOf : Entry → Bool
@@ -55,6 +61,14 @@ hasField m e p i = ltb e (length (m .entries)) && (ltb p (partsOf (entry m e)) &
 -- "each set, entry, part and lane that the set holds"
 abbrev pub holds : Map → ℕ → ℕ → ℕ → ℕ → Bool
 holds m s e p i = hasBytes s && (ltb e (heldBy m s) && (ltb p (partsOf (entry m e)) && isLane i))
+
+-- set s holds the field of entry e, part p and lane i: what the test `holds` says
+pub record Field (m : Map) (s e p i : ℕ) : Type 0 where
+  pub set : HasBytes s
+  pub ent : e < heldBy m s
+  pub part : p < partsOf (entry m e)
+  pub low : 1 ≤ i
+  pub top : i ≤ 8
 
 -- "For lane i, 1 to 8, let b = (i − 1) × W": the lane's first bit in its part, in byte b div 8, at bit b mod 8 there
 abbrev pub laneStart : ℕ → ℕ → ℕ

@@ -94,10 +94,10 @@ tableDoes m (apply s lanes) t =
     (saysYes, renumbered t λ s′ e p i. cond (changes m t s lanes s′ e p i) (t .numbers s e p i) (t .numbers s′ e p i))
 
 -- "A refused call changes none of its numbers; the refusal and its extras follow from the call's arguments and those three."
-unfoldable pub tableStep : ℕ → List ℕ → List ℕ → Call → Table → Answer × Table
-tableStep count rw ro c t =
+unfoldable pub tableCall : ℕ → List ℕ → List ℕ → Call → Table → Answer × Table
+tableCall count rw ro c t =
     decide (orderOf count rw ro (judge (mapOf count rw ro) c ++ tablePlan (mapOf count rw ro) c t)) t (tableDoes (mapOf count rw ro) c t)
 
 -- what the table makes of each thing that a list holds
 unfoldable pub tableMakes : ℕ → List ℕ → List ℕ → Command → Table → Answer × Table
-tableMakes count rw ro (call c) t = tableStep count rw ro c t
+tableMakes count rw ro (call c) t = tableCall count rw ro c t

@@ -150,7 +150,7 @@ pub enum Owned {
     Refused(Refusal),
 }
 
-// One step of the reader: the next entry's start and length, the end, or a refusal.
+// What a reader takes: the next entry's start and length, the end, or a refusal.
 pub enum Taken {
     Part { start: usize, length: usize },
     End,

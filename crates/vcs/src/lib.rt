@@ -2,7 +2,7 @@
 ghost use mathlib.Core.Path.{_≡_};
 ghost use Rattle.rules.specs.Load.{loadOf};
 ghost use Rattle.rules.specs.declared.Call.{Call};
-ghost use Rattle.rules.specs.Bank.{freshStep, bankStep};
+ghost use Rattle.rules.specs.Bank.{freshCall, bankCall};
 ghost use Rattle.rules.specs.Beside.{placeOf, ownerCall, weightCall};
 ghost use Rattle.rules.specs.Reader.{takeOf, movedTo};
 ghost use Rattle.descriptor.specs.Locate.{locatedOf};
@@ -22,7 +22,7 @@ use descriptor::load;
 use descriptor::locate;
 use placement::owner;
 use placement::place;
-use reader::take;
+use reader::take_from;
 use rules::Answer;
 use rules::Call;
 use rules::Loaded;
@@ -353,8 +353,8 @@ pub extern "C" fn vcs_owner(
 // Fresh: the bank cleared, and both entry counts, staged and active length.
 #[no_mangle]
 pub extern "C" fn vcs_fresh(count: usize, rw: &[u8], ro: &[u8], bank: &mut [u8]) -> FlatLoaded
-    ensures answer { λ r. ⌜ r ≡ flatLoaded (freshStep count (now (rw .entry)) (now (ro .entry)) (now (bank .entry)) .0) ⌝ }
-    ensures after { λ _. ⌜ now (bank .exit) ≡ freshStep count (now (rw .entry)) (now (ro .entry)) (now (bank .entry)) .1 ⌝ }
+    ensures answer { λ r. ⌜ r ≡ flatLoaded (freshCall count (now (rw .entry)) (now (ro .entry)) (now (bank .entry)) .0) ⌝ }
+    ensures after { λ _. ⌜ now (bank .exit) ≡ freshCall count (now (rw .entry)) (now (ro .entry)) (now (bank .entry)) .1 ⌝ }
 {
     flat_loaded(fresh(count, rw, ro, bank))
 }
@@ -370,8 +370,8 @@ pub extern "C" fn vcs_select(
     lane: usize,
     app: usize,
 ) -> FlatAnswer
-    ensures answer { λ r. ⌜ r ≡ flatAnswer (bankStep count (now (rw .entry)) (now (ro .entry)) (Call.Select set lane app) (now (bank .entry)) .0) ⌝ }
-    ensures after { λ _. ⌜ now (bank .exit) ≡ bankStep count (now (rw .entry)) (now (ro .entry)) (Call.Select set lane app) (now (bank .entry)) .1 ⌝ }
+    ensures answer { λ r. ⌜ r ≡ flatAnswer (bankCall count (now (rw .entry)) (now (ro .entry)) (Call.Select set lane app) (now (bank .entry)) .0) ⌝ }
+    ensures after { λ _. ⌜ now (bank .exit) ≡ bankCall count (now (rw .entry)) (now (ro .entry)) (Call.Select set lane app) (now (bank .entry)) .1 ⌝ }
 {
     flat_answer(select(count, rw, ro, bank, set, lane, app))
 }
@@ -389,8 +389,8 @@ pub extern "C" fn vcs_write(
     lane: usize,
     value: i64,
 ) -> FlatAnswer
-    ensures answer { λ r. ⌜ r ≡ flatAnswer (bankStep count (now (rw .entry)) (now (ro .entry)) (Call.Write set entry part lane value) (now (bank .entry)) .0) ⌝ }
-    ensures after { λ _. ⌜ now (bank .exit) ≡ bankStep count (now (rw .entry)) (now (ro .entry)) (Call.Write set entry part lane value) (now (bank .entry)) .1 ⌝ }
+    ensures answer { λ r. ⌜ r ≡ flatAnswer (bankCall count (now (rw .entry)) (now (ro .entry)) (Call.Write set entry part lane value) (now (bank .entry)) .0) ⌝ }
+    ensures after { λ _. ⌜ now (bank .exit) ≡ bankCall count (now (rw .entry)) (now (ro .entry)) (Call.Write set entry part lane value) (now (bank .entry)) .1 ⌝ }
 {
     flat_answer(write(count, rw, ro, bank, set, entry, part, lane, value))
 }
@@ -407,7 +407,7 @@ pub extern "C" fn vcs_read(
     part: usize,
     lane: usize,
 ) -> FlatAnswer
-    ensures answer { λ r. ⌜ r ≡ flatAnswer (bankStep count (now (rw .entry)) (now (ro .entry)) (Call.Read set entry part lane) (now (bank .entry)) .0) ⌝ }
+    ensures answer { λ r. ⌜ r ≡ flatAnswer (bankCall count (now (rw .entry)) (now (ro .entry)) (Call.Read set entry part lane) (now (bank .entry)) .0) ⌝ }
 {
     flat_answer(read(count, rw, ro, bank, set, entry, part, lane))
 }
@@ -423,8 +423,8 @@ pub extern "C" fn vcs_byte_write(
     offset: usize,
     value: u8,
 ) -> FlatAnswer
-    ensures answer { λ r. ⌜ r ≡ flatAnswer (bankStep count (now (rw .entry)) (now (ro .entry)) (Call.ByteWrite set offset value) (now (bank .entry)) .0) ⌝ }
-    ensures after { λ _. ⌜ now (bank .exit) ≡ bankStep count (now (rw .entry)) (now (ro .entry)) (Call.ByteWrite set offset value) (now (bank .entry)) .1 ⌝ }
+    ensures answer { λ r. ⌜ r ≡ flatAnswer (bankCall count (now (rw .entry)) (now (ro .entry)) (Call.ByteWrite set offset value) (now (bank .entry)) .0) ⌝ }
+    ensures after { λ _. ⌜ now (bank .exit) ≡ bankCall count (now (rw .entry)) (now (ro .entry)) (Call.ByteWrite set offset value) (now (bank .entry)) .1 ⌝ }
 {
     flat_answer(byte_write(count, rw, ro, bank, set, offset, value))
 }
@@ -439,7 +439,7 @@ pub extern "C" fn vcs_byte_read(
     set: usize,
     offset: usize,
 ) -> FlatAnswer
-    ensures { λ r. ⌜ r ≡ flatAnswer (bankStep count (now (rw .entry)) (now (ro .entry)) (Call.ByteRead set offset) (now (bank .entry)) .0) ⌝ }
+    ensures { λ r. ⌜ r ≡ flatAnswer (bankCall count (now (rw .entry)) (now (ro .entry)) (Call.ByteRead set offset) (now (bank .entry)) .0) ⌝ }
 {
     flat_answer(byte_read(count, rw, ro, bank, set, offset))
 }
@@ -456,8 +456,8 @@ pub extern "C" fn vcs_publish(
     lane: usize,
     value: i64,
 ) -> FlatAnswer
-    ensures answer { λ r. ⌜ r ≡ flatAnswer (bankStep count (now (rw .entry)) (now (ro .entry)) (Call.Publish entry part lane value) (now (bank .entry)) .0) ⌝ }
-    ensures after { λ _. ⌜ now (bank .exit) ≡ bankStep count (now (rw .entry)) (now (ro .entry)) (Call.Publish entry part lane value) (now (bank .entry)) .1 ⌝ }
+    ensures answer { λ r. ⌜ r ≡ flatAnswer (bankCall count (now (rw .entry)) (now (ro .entry)) (Call.Publish entry part lane value) (now (bank .entry)) .0) ⌝ }
+    ensures after { λ _. ⌜ now (bank .exit) ≡ bankCall count (now (rw .entry)) (now (ro .entry)) (Call.Publish entry part lane value) (now (bank .entry)) .1 ⌝ }
 {
     flat_answer(publish(count, rw, ro, bank, entry, part, lane, value))
 }
@@ -472,8 +472,8 @@ pub extern "C" fn vcs_apply(
     set: usize,
     lanes: u8,
 ) -> FlatAnswer
-    ensures answer { λ r. ⌜ r ≡ flatAnswer (bankStep count (now (rw .entry)) (now (ro .entry)) (Call.Apply set lanes) (now (bank .entry)) .0) ⌝ }
-    ensures after { λ _. ⌜ now (bank .exit) ≡ bankStep count (now (rw .entry)) (now (ro .entry)) (Call.Apply set lanes) (now (bank .entry)) .1 ⌝ }
+    ensures answer { λ r. ⌜ r ≡ flatAnswer (bankCall count (now (rw .entry)) (now (ro .entry)) (Call.Apply set lanes) (now (bank .entry)) .0) ⌝ }
+    ensures after { λ _. ⌜ now (bank .exit) ≡ bankCall count (now (rw .entry)) (now (ro .entry)) (Call.Apply set lanes) (now (bank .entry)) .1 ⌝ }
 {
     flat_answer(apply(count, rw, ro, bank, set, lanes))
 }
@@ -487,8 +487,8 @@ pub extern "C" fn vcs_perform(
     bank: &mut [u8],
     call: FlatCall,
 ) -> FlatAnswer
-    ensures answer { λ r. ⌜ r ≡ flatAnswer (bankStep count (now (rw .entry)) (now (ro .entry)) (callOf call) (now (bank .entry)) .0) ⌝ }
-    ensures after { λ _. ⌜ now (bank .exit) ≡ bankStep count (now (rw .entry)) (now (ro .entry)) (callOf call) (now (bank .entry)) .1 ⌝ }
+    ensures answer { λ r. ⌜ r ≡ flatAnswer (bankCall count (now (rw .entry)) (now (ro .entry)) (callOf call) (now (bank .entry)) .0) ⌝ }
+    ensures after { λ _. ⌜ now (bank .exit) ≡ bankCall count (now (rw .entry)) (now (ro .entry)) (callOf call) (now (bank .entry)) .1 ⌝ }
 {
     flat_answer(perform(count, rw, ro, bank, call_of(call)))
 }
@@ -513,7 +513,7 @@ pub extern "C" fn vcs_weight(
 pub extern "C" fn vcs_take(count: usize, string: &[u8], position: usize) -> FlatTaken
     ensures { λ r. ⌜ r ≡ flatTaken (takeOf count (now (string .entry)) position) (movedTo (takeOf count (now (string .entry)) position) position) ⌝ }
 {
-    let x = take(count, string, position);
+    let x = take_from(count, string, position);
     let taken = x.taken;
     match taken {
         Taken::Part { start, length } => FlatTaken {

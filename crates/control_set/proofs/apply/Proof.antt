@@ -12,13 +12,13 @@ use Rattle.rules.specs.declared.Call.{Call}
 use Rattle.rules.specs.Descriptor.{byteAt}
 use Rattle.rules.specs.Load.{sized}
 use Rattle.rules.specs.Place.{isSet}
-use Rattle.rules.proofs.BankLayout.{size-is}
-use Rattle.rules.proofs.Steps.{meets, bank-order-9, bank-order-8}
-use Rattle.rules.proofs.Orders.{bank-order-refused}
+use Rattle.rules.proofs.Bank.Places.{size-is}
+use Rattle.rules.proofs.Refusals.CallOrder.{meets, bank-order-9, bank-order-8}
+use Rattle.rules.proofs.Refusals.Orders.{bank-order-refused}
 use Rattle.control_set.specs.Gate.{Opened}
 use Rattle.control_set.specs.Plan.{Asked, Listed}
-use Rattle.control_set.proofs.Ways.{call-shut}
-use Rattle.control_set.proofs.Lists.{list-listed}
+use Rattle.control_set.proofs.Outcomes.{call-shut}
+use Rattle.control_set.proofs.EntryList.{list-listed}
 use Rattle.control_set.proofs.Applies.{apply-asked, apply-10, apply-11, apply-13, apply-14, apply-done}
 use Rattle.control_set.proofs.apply.Statement.{statement}
 use Rattle.control_set.proofs.apply.Tie as tie

@@ -10,9 +10,9 @@ use denote.Ref.{now}
 use Rattle.rules.specs.declared.Call.{Call}
 use Rattle.rules.specs.declared.Answer.{Answer}
 use Rattle.rules.specs.Layout.{setStart}
-use Rattle.rules.proofs.Steps.{meets}
+use Rattle.rules.proofs.Refusals.CallOrder.{meets}
 use Rattle.control_set.specs.Gate.{Reached}
-use Rattle.control_set.proofs.ByteWays.{byte-unreached, byte-read-away, byte-read-done}
+use Rattle.control_set.proofs.ByteCalls.{byte-unreached, byte-read-away, byte-read-done}
 use Rattle.control_set.proofs.byte_read.Statement.{statement}
 use Rattle.control_set.proofs.byte_read.Tie as tie
 

@@ -5,9 +5,9 @@ use native.Mathlib.Omega.{arith}
 use lib.ListN.{length, set}
 use denote.Ref.{now}
 use Rattle.rules.specs.declared.Call.{Call}
-use Rattle.rules.proofs.Steps.{meets}
+use Rattle.rules.proofs.Refusals.CallOrder.{meets}
 use Rattle.control_set.specs.Gate.{Reached}
-use Rattle.control_set.proofs.ByteWays.{byte-unreached, byte-write-away, byte-write-11, byte-write-done}
+use Rattle.control_set.proofs.ByteCalls.{byte-unreached, byte-write-away, byte-write-11, byte-write-done}
 use Rattle.control_set.proofs.byte_write.Statement.{statement}
 use Rattle.control_set.proofs.byte_write.Tie as tie
 

@@ -7,7 +7,7 @@ use native.Mathlib.Omega.{arith}
 use lib.ListN.{length, set, drop, replicate, length-set}
 use Rattle.rules.specs.Layout.{bankSize}
 use Rattle.rules.specs.Bank.{freshBank}
-use Rattle.rules.proofs.BankLayout.{size-is}
+use Rattle.rules.proofs.Bank.Places.{size-is}
 use Rattle.control_set.proofs.clear.Statement.{statement}
 use Rattle.control_set.proofs.clear.Tie as tie
 

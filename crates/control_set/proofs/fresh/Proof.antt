@@ -3,9 +3,9 @@ use borrow.Author.Needs.{needs}
 use mathlib.Core.Path.{refl}
 use lib.ListN.{length}
 use denote.Ref.{now}
-use Rattle.rules.proofs.Steps.{meets}
+use Rattle.rules.proofs.Refusals.CallOrder.{meets}
 use Rattle.control_set.specs.Gate.{Opened}
-use Rattle.control_set.proofs.Ways.{fresh-shut, fresh-open}
+use Rattle.control_set.proofs.Outcomes.{fresh-shut, fresh-open}
 use Rattle.control_set.proofs.fresh.Statement.{statement}
 use Rattle.control_set.proofs.fresh.Tie as tie
 

@@ -2,7 +2,7 @@
 use denote.Ref.{now}
 use mir.Syntax.{w64}
 use mir.Facts.{toZ-ofZ}
-use Rattle.control_set.proofs.Ways.{read-keeps, byte-read-keeps}
+use Rattle.control_set.proofs.Outcomes.{read-keeps, byte-read-keeps}
 use borrow.Author.Needs.{needs}
 use Rattle.control_set.proofs.perform.Statement.{statement}
 use Rattle.control_set.proofs.perform.Tie as tie

@@ -11,11 +11,11 @@ use Rattle.rules.specs.declared.Answer.{Answer}
 use Rattle.rules.specs.Load.{mapOf}
 use Rattle.rules.specs.Refuse.{exists, misdirected, unaccepted}
 use Rattle.rules.specs.Bank.{bankPlan, bankDoes}
-use Rattle.rules.proofs.Steps.{meets}
-use Rattle.rules.proofs.Places.{Field}
-use Rattle.control_set.proofs.Ways.{call-10, call-11, call-done}
+use Rattle.rules.specs.Place.{Field}
+use Rattle.rules.proofs.Refusals.CallOrder.{meets}
+use Rattle.control_set.proofs.Outcomes.{call-10, call-11, call-done}
 use Rattle.control_set.specs.Gate.{Entered, EntryGated}
-use Rattle.control_set.proofs.Enters.{entered-opened, call-unfound, no-read, read-tested, read-directed, read-there, spot-there, number-there}
+use Rattle.control_set.proofs.EntryCalls.{entered-opened, call-unfound, no-read, read-tested, read-directed, read-there, spot-there, number-there}
 use Rattle.control_set.proofs.read.Statement.{statement}
 use Rattle.control_set.proofs.read.Tie as tie
 

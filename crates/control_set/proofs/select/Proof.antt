@@ -12,10 +12,10 @@ use Rattle.rules.specs.declared.Call.{Call}
 use Rattle.rules.specs.Load.{mapOf}
 use Rattle.rules.specs.Refuse.{exists, misdirected, unaccepted}
 use Rattle.rules.specs.Bank.{bankPlan, bankDoes}
-use Rattle.rules.proofs.Tests.{and₃, from-true}
-use Rattle.rules.proofs.Steps.{meets}
+use Rattle.rules.proofs.Basics.Tests.{and₃, from-true}
+use Rattle.rules.proofs.Refusals.CallOrder.{meets}
 use Rattle.control_set.specs.Gate.{Opened}
-use Rattle.control_set.proofs.Ways.{count-top, call-shut, call-10, call-11, call-12, call-done}
+use Rattle.control_set.proofs.Outcomes.{count-top, call-shut, call-10, call-11, call-12, call-done}
 use Rattle.control_set.proofs.select.Statement.{statement}
 use Rattle.control_set.proofs.select.Tie as tie
 

@@ -16,7 +16,7 @@ use Rattle.control_set.proofs.Spots.{bits-at-lt}
 use Rattle.control_set.proofs.Signs.{number-bits}
 use Rattle.control_set.proofs.Values.{number-byte}
 use Rattle.control_set.specs.Gate.{Entered, EntryGated}
-use Rattle.control_set.proofs.Enters.{weight-unfound, weight-10, weight-spot, weight-is}
+use Rattle.control_set.proofs.EntryCalls.{weight-unfound, weight-10, weight-spot, weight-is}
 use Rattle.control_set.proofs.weight.Statement.{statement}
 use Rattle.control_set.proofs.weight.Tie as tie
 

@@ -7,8 +7,8 @@ use lib.ListN.{length}
 use mir.Facts.{toZ-ofZ}
 use Rattle.rules.specs.declared.Refusal.the-variants.{Plain as plain}
 use Rattle.rules.specs.declared.Call.{Call}
-use Rattle.rules.proofs.Steps.{bank-order-9, meets}
-use Rattle.control_set.proofs.Ways.{call-shut}
+use Rattle.rules.proofs.Refusals.CallOrder.{bank-order-9, meets}
+use Rattle.control_set.proofs.Outcomes.{call-shut}
 use Rattle.control_set.proofs.write.Statement.{statement}
 use Rattle.control_set.proofs.write.Tie as tie
 

@@ -13,9 +13,9 @@ use Rattle.rules.specs.declared.Loaded.the-variants.{Refused as rejected}
 use Rattle.rules.specs.declared.Walked.the-variants.{Ended as ended}
 use Rattle.rules.specs.Descriptor.{maskBytes}
 use Rattle.rules.specs.Load.{start, intoRO, walkOf, sized}
-use Rattle.rules.proofs.Tests.{and₄, from-true}
-use Rattle.rules.proofs.Loads.{load-9, load-strings, strings-rw-refused, strings-ro-refused}
-use Rattle.rules.proofs.Walks.{walk-counts}
+use Rattle.rules.proofs.Basics.Tests.{and₄, from-true}
+use Rattle.rules.proofs.Load.Loads.{load-9, load-strings, strings-rw-refused, strings-ro-refused}
+use Rattle.rules.proofs.Load.Walks.{walk-counts}
 use Rattle.descriptor.proofs.Both.{both-load}
 use Rattle.descriptor.proofs.load.Statement.{statement}
 use Rattle.descriptor.proofs.load.Tie as tie

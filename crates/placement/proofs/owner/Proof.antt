@@ -3,7 +3,7 @@ use mathlib.Core.Path.{sym, _∙_}
 use Prim.Native.Nat.{_-_, _≤_, _<_}
 use denote.Ref.{now}
 use borrow.Author.Tests.{not-true, not-false}
-use Rattle.rules.proofs.PlaceCalls.{owner-refused}
+use Rattle.rules.proofs.Place.PlaceCalls.{owner-refused}
 use Rattle.descriptor.proofs.Covers.{Covering, cover-refused, cover-none, cover-one}
 use Rattle.placement.proofs.Owns.{owns-none, owns-10, owns-small, owns-field}
 use borrow.Author.Needs.{needs}

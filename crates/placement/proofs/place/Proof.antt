@@ -5,7 +5,7 @@ use Prim.Native.Nat.{_≤_, _<_}
 use native.Mathlib.Omega.{arith}
 use denote.Ref.{now}
 use borrow.Author.Tests.{not-true, not-false}
-use Rattle.rules.proofs.PlaceCalls.{place-refused}
+use Rattle.rules.proofs.Place.PlaceCalls.{place-refused}
 use Rattle.descriptor.specs.Find.{InMap}
 use Rattle.descriptor.proofs.Finds.{found-refused, found-in}
 use Rattle.placement.proofs.Placing.{offset-small, parts-small, width-small, placing-10, placing-11, placing-at}

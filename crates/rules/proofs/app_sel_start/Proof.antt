@@ -2,7 +2,7 @@
 use mathlib.Core.Path.{sym}
 use native.Mathlib.Omega.{arith}
 use Rattle.rules.specs.Layout.{appSelStart}
-use Rattle.rules.proofs.BankLayout.{app-start-last}
+use Rattle.rules.proofs.Bank.Places.{app-start-last}
 use Rattle.rules.proofs.app_sel_start.Statement.{statement}
 use Rattle.rules.proofs.app_sel_start.Tie as tie
 

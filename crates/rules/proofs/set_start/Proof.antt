@@ -1,7 +1,7 @@
 -- `rules::set_start` meets its contract.
 use mathlib.Core.Path.{sym}
 use native.Mathlib.Omega.{arith}
-use Rattle.rules.proofs.BankLayout.{set-start-staged, set-start-last}
+use Rattle.rules.proofs.Bank.Places.{set-start-staged, set-start-last}
 use Rattle.rules.proofs.set_start.Statement.{statement}
 use Rattle.rules.proofs.set_start.Tie as tie
 

@@ -3,19 +3,19 @@ use mathlib.Core.Path.{_≡_, refl, ap}
 use borrow.Author.Needs.{needs}
 use denote.Ref.{now}
 use Rattle.rules.specs.Reader.{takeOf, movedTo}
-use Rattle.reader.specs.declared.Stepped.{Stepped}
+use Rattle.reader.specs.declared.Taking.{Taking}
 use Rattle.vcs.proofs.vcs_take.Statement.{statement}
 use Rattle.vcs.proofs.vcs_take.Tie as tie
 
 -- what `take` gave, and the position after it
-gave : (c : tie.After-take) → let g = c .before .before .args in c .take .result .taken ≡ takeOf (g .count) (now (g .string)) (g .position)
-gave c = ap (λ (x : Stepped). x .taken) (c .take .ensures)
+gave : (c : tie.After-take-from) → let g = c .before .before .args in c .take-from .result .taken ≡ takeOf (g .count) (now (g .string)) (g .position)
+gave c = ap (λ (x : Taking). x .taken) (c .take-from .ensures)
 
-after : (c : tie.After-take) → let g = c .before .before .args in c .take .result .at ≡ movedTo (takeOf (g .count) (now (g .string)) (g .position)) (g .position)
-after c = ap (λ (x : Stepped). x .at) (c .take .ensures)
+after : (c : tie.After-take-from) → let g = c .before .before .args in c .take-from .result .at ≡ movedTo (takeOf (g .count) (now (g .string)) (g .position)) (g .position)
+after c = ap (λ (x : Taking). x .at) (c .take-from .ensures)
 
-take-requires : tie.Need-take-requires
-take-requires c κs = search needs
+take-from-requires : tie.Need-take-from-requires
+take-from-requires c κs = search needs
 
 enum-known-taken : tie.Need-enum-known-taken
 enum-known-taken c = search needs
@@ -42,7 +42,7 @@ pub vcs-take-spec : {M : Type 1} → statement M
 vcs-take-spec =
     tie.close
     (tie.spec
-    take-requires
+    take-from-requires
     enum-known-taken
     enum-told
     enum-known-taken-2

@@ -3,7 +3,7 @@ use mathlib.Core.Path.{refl}
 use native.Mathlib.Omega.{arith}
 use borrow.Author.Needs.{needs}
 use Rattle.rules.specs.Layout.{appSelAt}
-use Rattle.rules.proofs.BankLayout.{size-is, app-inside}
+use Rattle.rules.proofs.Bank.Places.{size-is, app-inside}
 use Rattle.control_set.proofs.bank.app_sel_at.Statement.{statement}
 use Rattle.control_set.proofs.bank.app_sel_at.Tie as tie
 

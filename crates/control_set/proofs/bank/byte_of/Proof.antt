@@ -2,7 +2,7 @@
 use mathlib.Core.Path.{refl}
 use native.Mathlib.Omega.{arith}
 use borrow.Author.Needs.{needs}
-use Rattle.rules.proofs.BankLayout.{size-is, set-inside}
+use Rattle.rules.proofs.Bank.Places.{size-is, set-inside}
 use Rattle.control_set.proofs.bank.byte_of.Statement.{statement}
 use Rattle.control_set.proofs.bank.byte_of.Tie as tie
 

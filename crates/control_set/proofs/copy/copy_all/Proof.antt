@@ -8,7 +8,7 @@ use denote.Ref.{now}
 use borrow.Author.Needs.{needs}
 use Rattle.control_set.specs.Plan.{Spread, fieldsBy, copyEntry, copyAmong}
 use Rattle.control_set.proofs.Copies.{Upto, upto-none, asked-kept, entry-turn}
-use Rattle.control_set.proofs.Wanted.{wants-kept, clear-kept}
+use Rattle.control_set.proofs.ChosenApps.{wants-kept, clear-kept}
 use Rattle.control_set.proofs.copy.copy_all.Statement.{statement}
 use Rattle.control_set.proofs.copy.copy_all.Tie as tie
 

@@ -3,7 +3,7 @@ use mathlib.Core.Path.{_≡_}
 use Prim.Native.Nat.{_+_, _-_, _*_, _≤_, _<_}
 use native.Mathlib.Omega.{arith}
 use borrow.Author.Needs.{needs}
-use Rattle.rules.proofs.BankLayout.{size-is, set-start-last}
+use Rattle.rules.proofs.Bank.Places.{size-is, set-start-last}
 use Rattle.control_set.specs.Plan.{byteCopied, bytesCopied}
 use Rattle.control_set.proofs.Copies.{set-mid, Upto, upto-none, byte-turn}
 use Rattle.control_set.proofs.copy.copy_bytes.Statement.{statement}

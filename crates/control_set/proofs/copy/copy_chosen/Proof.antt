@@ -4,9 +4,9 @@ use lib.Bits.{bitAnd}
 use lib.Dec.{eqb, eqb→eq}
 use lib.ListN.{length}
 use denote.Ref.{now}
-use Rattle.rules.proofs.Tests.{and₂, from-true}
-use Rattle.control_set.proofs.Wanted.{none-copied, all-copied, none-copied-entry}
-use Rattle.control_set.proofs.Whole.{Bytes, whole-copied}
+use Rattle.rules.proofs.Basics.Tests.{and₂, from-true}
+use Rattle.control_set.proofs.ChosenApps.{none-copied, all-copied, none-copied-entry}
+use Rattle.control_set.proofs.WholeEntries.{Bytes, whole-copied}
 use borrow.Author.Needs.{needs}
 use Rattle.control_set.proofs.copy.copy_chosen.Statement.{statement}
 use Rattle.control_set.proofs.copy.copy_chosen.Tie as tie

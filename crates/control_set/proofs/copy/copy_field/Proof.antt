@@ -4,7 +4,7 @@ use mathlib.Core.Path.{refl, _∙_}
 use native.Mathlib.Omega.{arith}
 use denote.Ref.{now}
 use Rattle.rules.specs.Place.{laneBit}
-use Rattle.rules.proofs.BankLayout.{size-is, set-start-last}
+use Rattle.rules.proofs.Bank.Places.{size-is, set-start-last}
 use Rattle.control_set.proofs.Spots.{spot-room, bits-at-lt}
 use Rattle.control_set.proofs.Copies.{merge-mid}
 use Rattle.control_set.proofs.copy.copy_field.Statement.{statement}

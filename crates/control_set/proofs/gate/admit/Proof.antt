@@ -6,9 +6,9 @@ use native.Mathlib.Omega.{arith}
 use denote.Ref.{now}
 use borrow.Author.Tests.{not-true, not-false}
 use Rattle.rules.specs.Load.{sized}
-use Rattle.rules.proofs.BankLayout.{size-is}
-use Rattle.rules.proofs.Steps.{bank-order-9, bank-order-8}
-use Rattle.rules.proofs.Orders.{bank-order-refused}
+use Rattle.rules.proofs.Bank.Places.{size-is}
+use Rattle.rules.proofs.Refusals.CallOrder.{bank-order-9, bank-order-8}
+use Rattle.rules.proofs.Refusals.Orders.{bank-order-refused}
 use Rattle.control_set.proofs.gate.admit.Statement.{statement}
 use Rattle.control_set.proofs.gate.admit.Tie as tie
 

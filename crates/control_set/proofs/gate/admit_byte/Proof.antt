@@ -3,7 +3,7 @@ use borrow.Author.Needs.{needs}
 use borrow.Author.Tests.{not-true}
 use mathlib.Core.Path.{sym, _∙_}
 use denote.Ref.{now}
-use Rattle.rules.proofs.Steps.{bank-order-9}
+use Rattle.rules.proofs.Refusals.CallOrder.{bank-order-9}
 use Rattle.control_set.proofs.gate.admit_byte.Statement.{statement}
 use Rattle.control_set.proofs.gate.admit_byte.Tie as tie
 

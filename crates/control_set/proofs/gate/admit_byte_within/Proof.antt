@@ -8,10 +8,10 @@ use Prim.Native.Nat.{_≤_, _<_}
 use denote.Ref.{now}
 use borrow.Author.Tests.{not-true, not-false}
 use Rattle.rules.specs.Load.{sized}
-use Rattle.rules.proofs.BankLayout.{size-is}
-use Rattle.rules.proofs.Steps.{bank-order-9, bank-order-8}
+use Rattle.rules.proofs.Bank.Places.{size-is}
+use Rattle.rules.proofs.Refusals.CallOrder.{bank-order-9, bank-order-8}
 use Rattle.descriptor.proofs.Covers.{Covering, cover-one}
-use Rattle.control_set.proofs.ByteWays.{byte-refused, byte-none, byte-10, byte-small, byte-has}
+use Rattle.control_set.proofs.ByteCalls.{byte-refused, byte-none, byte-10, byte-small, byte-has}
 use Rattle.control_set.proofs.gate.admit_byte_within.Statement.{statement}
 use Rattle.control_set.proofs.gate.admit_byte_within.Tie as tie
 

@@ -2,8 +2,8 @@
 use mathlib.Core.Path.{_≡_, _∙_}
 use denote.Ref.{now}
 use borrow.Author.Needs.{needs}
-use Rattle.rules.proofs.BankLayout.{size-is}
-use Rattle.control_set.proofs.Enters.{found-gated}
+use Rattle.rules.proofs.Bank.Places.{size-is}
+use Rattle.control_set.proofs.EntryCalls.{found-gated}
 use Rattle.control_set.proofs.gate.admit_entry.Statement.{statement}
 use Rattle.control_set.proofs.gate.admit_entry.Tie as tie
 

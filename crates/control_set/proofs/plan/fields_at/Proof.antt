@@ -10,7 +10,7 @@ use mir.Syntax.{w64}
 use mir.Val.{toZ, ofZ}
 use mir.Facts.{toZ-ofZ, toZ-pos}
 use denote.Ref.{now}
-use Rattle.control_set.proofs.Lists.{below-fits}
+use Rattle.control_set.proofs.EntryList.{below-fits}
 use Rattle.control_set.proofs.plan.fields_at.Statement.{statement}
 use Rattle.control_set.proofs.plan.fields_at.Tie as tie
 

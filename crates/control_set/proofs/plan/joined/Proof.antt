@@ -7,7 +7,7 @@ use denote.Ref.{now}
 use Rattle.rules.specs.Descriptor.{isApp}
 use Rattle.rules.specs.Refuse.{chooses}
 use Rattle.rules.specs.Bank.{appSelIn}
-use Rattle.rules.proofs.Tests.{and₂, is-true, from-true}
+use Rattle.rules.proofs.Basics.Tests.{and₂, is-true, from-true}
 use Rattle.control_set.proofs.Leasts.{app-range}
 use borrow.Author.Needs.{needs}
 use Rattle.control_set.proofs.plan.joined.Statement.{statement}

@@ -7,7 +7,7 @@ use borrow.Author.Needs.{needs}
 use Rattle.rules.specs.Numbers.{any}
 use Rattle.control_set.specs.Plan.{badAt, badIn, Least}
 use Rattle.control_set.proofs.Leasts.{any-none, any-more}
-use Rattle.control_set.proofs.Wanted.{passed-over, looked-at, every-fine}
+use Rattle.control_set.proofs.ChosenApps.{passed-over, looked-at, every-fine}
 use Rattle.control_set.proofs.plan.lowest_in_entry.Statement.{statement}
 use Rattle.control_set.proofs.plan.lowest_in_entry.Tie as tie
 

@@ -4,7 +4,7 @@ use Prim.Native.Nat.{_-_, _≤_}
 use native.Mathlib.Omega.{arith}
 use borrow.Author.Needs.{needs}
 use Rattle.control_set.specs.Plan.{Wants}
-use Rattle.control_set.proofs.Wanted.{wants-none, wants-next}
+use Rattle.control_set.proofs.ChosenApps.{wants-none, wants-next}
 use Rattle.control_set.proofs.plan.wanted.Statement.{statement}
 use Rattle.control_set.proofs.plan.wanted.Tie as tie
 

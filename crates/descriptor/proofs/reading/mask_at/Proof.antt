@@ -2,7 +2,7 @@
 use mathlib.Core.Path.{_≡_, sym, _∙_}
 use native.Mathlib.Omega.{arith}
 use denote.Ref.{now}
-use Rattle.rules.proofs.Checks.{high-one}
+use Rattle.rules.proofs.Load.Checks.{high-one}
 use borrow.Author.Needs.{needs}
 use Rattle.descriptor.proofs.reading.mask_at.Statement.{statement}
 use Rattle.descriptor.proofs.reading.mask_at.Tie as tie

@@ -4,7 +4,7 @@ use Prim.Native.Nat.{_+_, _*_, _≤_}
 use native.Mathlib.Omega.{arith}
 use lib.ListN.{length, List·getD-eq-default}
 use denote.Ref.{now}
-use Rattle.rules.proofs.Checks.{high-two}
+use Rattle.rules.proofs.Load.Checks.{high-two}
 use borrow.Author.Needs.{needs}
 use Rattle.descriptor.proofs.reading.pair_from.Statement.{statement}
 use Rattle.descriptor.proofs.reading.pair_from.Tie as tie

@@ -2,7 +2,7 @@
 use borrow.Author.Needs.{needs}
 use mathlib.Core.Path.{refl}
 use borrow.Author.Tests.{lt-ltb, le-ltb}
-use Rattle.descriptor.specs.Steps.{stepBy}
+use Rattle.descriptor.specs.Decode.{stepBy}
 use Rattle.descriptor.proofs.reading.step_at.Statement.{statement}
 use Rattle.descriptor.proofs.reading.step_at.Tie as tie
 

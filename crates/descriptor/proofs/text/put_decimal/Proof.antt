@@ -1,7 +1,7 @@
 -- `put_decimal` meets its contract.
 use borrow.Author.Needs.{needs}
 use native.Mathlib.Omega.{arith}
-use Rattle.rules.proofs.Decimals.{decimal-one, decimal-two, decimal-three}
+use Rattle.rules.proofs.Program.Decimals.{decimal-one, decimal-two, decimal-three}
 use Rattle.descriptor.proofs.Puts.{put-then, put-most}
 use Rattle.descriptor.proofs.text.put_decimal.Statement.{statement}
 use Rattle.descriptor.proofs.text.put_decimal.Tie as tie

@@ -6,7 +6,7 @@ use native.Mathlib.Omega.{arith}
 use lib.ListN.{length}
 use denote.Ref.{now}
 use Rattle.rules.specs.Descriptor.{decodeAt}
-use Rattle.rules.proofs.Checks.{Passed, decode-passed}
+use Rattle.rules.proofs.Load.Checks.{Passed, decode-passed}
 use Rattle.descriptor.proofs.Scan.{Went, went}
 use Rattle.descriptor.proofs.Lines.{failed-by, Writing, writing-begin, writing-next, writing-stop, writing-end}
 use Rattle.descriptor.proofs.text.put_entries.Statement.{statement}
@@ -23,13 +23,13 @@ gone : (c : tie.After-known-told Inv-loop μ-loop) →
     let l = c .before .before .before .before .before in
     let g = l .before .before .args in
     Went (l .loop .from) (l .loop .st) (decodeAt (g .in-ro) (g .a) (now (g .s)) (l .loop .from) (l .loop .st)) (c .before .d .given .0 .0) (c .before .d .given .0 .1 .0)
-gone c = went _ _ _ _ _ (sym (c .before .before .before .step .ensures) ∙ c .before .d .given .1)
+gone c = went _ _ _ _ _ (sym (c .before .before .before .decode .ensures) ∙ c .before .d .given .1)
 
 loop-holds : tie.Need-loop-holds Inv-loop μ-loop
 loop-holds c = writing-begin _ _ _ _ _ _ (c .before .pre .0 .sum)
 
-step-requires : tie.Need-step-requires Inv-loop μ-loop
-step-requires c κs =
+decode-requires : tie.Need-decode-requires Inv-loop μ-loop
+decode-requires c κs =
     let l = c .before in
     let p = l .before .before .pre .0 in
     record {
@@ -53,7 +53,7 @@ returns : tie.Need-returns Inv-loop μ-loop
 returns c =
     let k = c .before .before in
     let t = k .before in
-    writing-stop (t .before .loop .inv) (t .loop-test .taken) _ (failed-by _ _ _ _ (sym (k .step .ensures) ∙ c .enum-told .given .1))
+    writing-stop (t .before .loop .inv) (t .loop-test .taken) _ (failed-by _ _ _ _ (sym (k .decode .ensures) ∙ c .enum-told .given .1))
 
 put-entry-requires : tie.Need-put-entry-requires Inv-loop μ-loop
 put-entry-requires c κs =
@@ -98,7 +98,7 @@ put-entries-spec =
     Inv-loop
     μ-loop
     loop-holds
-    step-requires
+    decode-requires
     enum-known-d
     enum-told
     returns

@@ -3,7 +3,7 @@ use borrow.Author.Needs.{needs}
 use mathlib.Core.Path.{sym, _∙_}
 use native.Mathlib.Omega.{arith}
 use denote.Ref.{now}
-use Rattle.rules.proofs.LoadNumber.{load-number}
+use Rattle.rules.proofs.Load.LoadNumber.{load-number}
 use Rattle.descriptor.proofs.text.put_strings.Statement.{statement}
 use Rattle.descriptor.proofs.text.put_strings.Tie as tie
 

@@ -7,8 +7,8 @@ use lib.ListN.{length}
 use denote.Ref.{now}
 use Rattle.rules.specs.Descriptor.{decodeAt}
 use Rattle.rules.specs.Load.{walkOf}
-use Rattle.rules.proofs.Checks.{Passed, decode-passed}
-use Rattle.rules.proofs.Folds.{done, out}
+use Rattle.rules.proofs.Load.Checks.{Passed, decode-passed}
+use Rattle.rules.proofs.Load.Folds.{done, out}
 use Rattle.descriptor.proofs.Scan.{Went, went, halts, Scanning, scan-begin, scan-turn}
 use Rattle.descriptor.proofs.walk.scan.Statement.{statement}
 use Rattle.descriptor.proofs.walk.scan.Tie as tie
@@ -24,13 +24,13 @@ gone : (c : tie.After-known-told Inv-loop μ-loop) →
     let l = c .before .before .before .before .before in
     let g = l .before .before .args in
     Went (l .loop .at) (l .loop .st) (decodeAt (g .in-ro) (g .a) (now (g .s)) (l .loop .at) (l .loop .st)) (c .before .d .given .0 .0) (c .before .d .given .0 .1 .0)
-gone c = went _ _ _ _ _ (sym (c .before .before .before .step .ensures) ∙ c .before .d .given .1)
+gone c = went _ _ _ _ _ (sym (c .before .before .before .decode .ensures) ∙ c .before .d .given .1)
 
 loop-holds : tie.Need-loop-holds Inv-loop μ-loop
 loop-holds c = scan-begin _ _ _ _ _ (c .before .pre .sum)
 
-step-requires : tie.Need-step-requires Inv-loop μ-loop
-step-requires c κs =
+decode-requires : tie.Need-decode-requires Inv-loop μ-loop
+decode-requires c κs =
     let l = c .before in
     let b = l .before .before in
     record {
@@ -62,7 +62,7 @@ returns c =
     let g = l .before .before .args in
     let d = decodeAt (g .in-ro) (g .a) (now (g .s)) (l .loop .at) (l .loop .st) in
     out (l .loop .inv .folded) (k .before .loop-test .taken) _
-    (λ r. c .stopped .ensures ∙ halts (l .loop .at) (l .loop .st) d (k .step .result) _ r (k .step .ensures) (t .enum-told .given .1))
+    (λ r. c .stopped .ensures ∙ halts (l .loop .at) (l .loop .st) d (k .decode .result) _ r (k .decode .ensures) (t .enum-told .given .1))
 
 loop-less : tie.Need-loop-less Inv-loop μ-loop
 loop-less c =
@@ -88,7 +88,7 @@ scan-spec =
     Inv-loop
     μ-loop
     loop-holds
-    step-requires
+    decode-requires
     enum-known-d
     enum-told
     stopped-requires

@@ -1,0 +1,56 @@
+-- The step of a walk, in terms of the rules' decode of one entry.
+use mathlib.Core.Path.{_≡_}
+use mathlib.Core.Bool.{Bool, true, false, _&&_, not, cond}
+use mathlib.Core.List.{List}
+use Prim.Native.Nat.{ℕ, _+_, _/_, _%_, _≤_, _<_}
+use lib.ListN.{length}
+use lib.Dec.{ltb, leb, eqb}
+use Rattle.rules.specs.declared.State.{State}
+use Rattle.rules.specs.declared.Decoded.{Decoded}
+use Rattle.rules.specs.declared.Decoded.the-variants.{Entry as decoded, Refused as failed}
+use Rattle.rules.specs.Descriptor.{byteAt}
+use Rattle.rules.specs.Load.{next}
+use Rattle.descriptor.specs.declared.decode.Decoding.{Decoding}
+use Rattle.descriptor.specs.declared.decode.Decoding.the-variants.{Past as past, Refused as stops}
+use Rattle.descriptor.specs.Rows.{classes, rows, classOf, cell}
+
+-- what a walk makes of a decode
+abbrev pub decodingOf : ℕ → State → Decoded → Decoding
+decodingOf at st (decoded e) = past (at + e .length) (next st e)
+decodingOf at st (failed n) = stops n
+
+-- the step byte by its place
+unfoldable pub stepBy : ℕ → List ℕ → ℕ → ℕ
+stepBy place s from = cond (ltb 0 place) (byteAt s (from + place)) 0
+
+-- whether an ID may stand in a string, by the number of its side
+abbrev pub standsBy : ℕ → Bool → Bool
+standsBy side true = eqb (side / 2 % 2) 1
+standsBy side false = eqb (side % 2) 1
+
+-- the test of 6
+abbrev pub lateBy : ℕ → Bool → Bool → Bool
+lateBy id media passed = leb 2 id && (leb id 8 && (not media && passed))
+
+-- a place of a string at which a step is made
+pub record Walking (table : List ℕ) (rowTable : List (List ℕ)) (a : ℕ) (s : List ℕ) (at : ℕ) (st : State) : Type 0 where
+  pub classes-is : table ≡ classes
+  pub table-is : rowTable ≡ rows
+  pub mask-low : 1 ≤ a
+  pub mask-top : a ≤ 2
+  pub inside : at < length s
+  pub short : length s ≤ 120
+  pub number : st .number ≤ 1000
+  pub sum : st .sum ≤ 256
+
+-- the same past 1 and 2, with the class of the entry's ID
+pub record Standing (rowTable : List (List ℕ)) (class a : ℕ) (s : List ℕ) (at : ℕ) (st : State) : Type 0 where
+  pub table-is : rowTable ≡ rows
+  pub class-is : class ≡ classOf (byteAt s at)
+  pub class-top : class < 10
+  pub mask-low : 1 ≤ a
+  pub mask-top : a ≤ 2
+  pub room : at + cell rows class 2 + a ≤ length s
+  pub short : length s ≤ 120
+  pub number : st .number ≤ 1000
+  pub sum : st .sum ≤ 256

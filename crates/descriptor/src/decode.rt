@@ -1,0 +1,133 @@
+// One entry of a walk: the checks 1 to 7, once for every walk.
+ghost use mathlib.Core.Path.{_≡_};
+ghost use Prim.Native.Nat.{_<_, _+_};
+ghost use lib.ListN.{length};
+ghost use lib.Dec.{ltb};
+ghost use Rattle.rules.specs.Descriptor.{byteAt, mediaSide, entryAt, contentChecks, decodeAt};
+ghost use Rattle.descriptor.specs.Decode.{decodingOf, stepBy, standsBy, lateBy, Walking, Standing};
+use crate::rows::class_of;
+use crate::state::next;
+use crate::table::FLAGS;
+use crate::table::LEAST;
+use crate::table::NEEDED;
+use crate::table::SIDE;
+use crate::table::STEP;
+use rules::State;
+
+// Past an entry, with the place and the state after it, or the number of the first check that it fails.
+pub enum Decoding {
+    Past(usize, State),
+    Refused(usize),
+}
+
+// A byte of a string, 0 past its end.
+pub fn byte_at(s: &[u8], i: usize) -> u8
+    ensures { λ r. ⌜ r ≡ byteAt (now (s .entry)) i ⌝ }
+{
+    if i < s.len() {
+        return s[i];
+    }
+    0
+}
+
+// The step byte of an entry, by its place, 0 where its ID has none; the entry's start and A are given as one number.
+fn step_in(place: u8, s: &[u8], from: usize) -> u8
+    requires { ⌜ (0 < place → from + place < length (now s)) ⌝ }
+    ensures { λ r. ⌜ r ≡ stepBy place (now (s .entry)) from ⌝ }
+{
+    if 0 < place {
+        return s[from + (place as usize)];
+    }
+    0
+}
+
+// Whether an entry with its PropertyFlags at a place is media side, where they are read.
+fn media_at(read: u8, s: &[u8], at: usize) -> bool
+    requires { ⌜ (0 < read → at < length (now s)) ⌝ }
+    ensures { λ r. ⌜ r ≡ mediaSide (ltb 0 read) (byteAt (now (s .entry)) at) ⌝ }
+{
+    if 0 < read {
+        return s[at] % 2 == 1;
+    }
+    false
+}
+
+// Whether an ID of a side (1 RW, 2 RO, 3 both) may stand in a string.
+fn stands(side: u8, in_ro: bool) -> bool
+    ensures { λ r. ⌜ r ≡ standsBy side in_ro ⌝ }
+{
+    if in_ro {
+        return side / 2 % 2 == 1;
+    }
+    side % 2 == 1
+}
+
+// 6: a host-side ID of 02h to 08h after a media-side table entry.
+fn late_host(id: u8, media: bool, passed: bool) -> bool
+    ensures { λ r. ⌜ r ≡ lateBy id media passed ⌝ }
+{
+    if passed {
+        return (2 <= id) & ((id <= 8) & !media);
+    }
+    false
+}
+
+// 3 to 7, for the entry at a place, with the class of its ID.
+fn content(
+    rows: &[[u8; 5]; 10],
+    class: usize,
+    in_ro: bool,
+    a: usize,
+    s: &[u8],
+    at: usize,
+    st: State,
+) -> Decoding
+    requires { ⌜ Standing (now rows) class a (now s) at st ⌝ }
+    ensures { λ r. ⌜ r ≡ decodingOf at st (contentChecks in_ro st (entryAt a (now (s .entry)) at (st .sum))) ⌝ }
+{
+    if !stands(rows[class][SIDE], in_ro) {
+        return Decoding::Refused(3);
+    }
+    let memory = s[at + 2 + a] as usize;
+    if memory < (rows[class][NEEDED] as usize) {
+        return Decoding::Refused(4);
+    }
+    if 3 < step_in(rows[class][STEP], s, at + a) {
+        return Decoding::Refused(5);
+    }
+    let media = media_at(rows[class][FLAGS], s, at + 3 + a);
+    if late_host(s[at], media, st.media) {
+        return Decoding::Refused(6);
+    }
+    if 256 < st.sum + memory {
+        return Decoding::Refused(7);
+    }
+    Decoding::Past(at + (s[at + 1] as usize), next(st, memory, media))
+}
+
+// The entry at a place: 1 and 2, then 3 to 7.
+pub fn decode(
+    classes: &[u8; 19],
+    rows: &[[u8; 5]; 10],
+    in_ro: bool,
+    a: usize,
+    s: &[u8],
+    at: usize,
+    st: State,
+) -> Decoding
+    requires { ⌜ Walking (now classes) (now rows) a (now s) at st ⌝ }
+    ensures { λ r. ⌜ r ≡ decodingOf at st (decodeAt in_ro a (now (s .entry)) at st) ⌝ }
+{
+    if at + 1 == s.len() {
+        return Decoding::Refused(1);
+    }
+    let length = s[at + 1] as usize;
+    if s.len() < at + length {
+        return Decoding::Refused(1);
+    }
+    let class = class_of(classes, s[at]);
+    if length < (rows[class][LEAST] as usize) + a {
+        return Decoding::Refused(2);
+    }
+    content(rows, class, in_ro, a, s, at, st)
+}

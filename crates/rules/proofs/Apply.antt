@@ -1,0 +1,3 @@
+-- Apply: its plan and its copy.
+pub mod Plans
+pub mod Applied

@@ -1,0 +1,112 @@
+-- The laws of `placeOf` and `ownerCall` that a function's proof cites, one for each way out, in 01's order.
+use mathlib.Core.Path.{_≡_, refl, sym, _∙_}
+use mathlib.Core.Bool.{Bool, true, false, _&&_, not, cond}
+use mathlib.Core.List.{List, [], _∷_}
+use Prim.Native.Nat.{ℕ, _+_, _≤_, _<_}
+use native.Mathlib.Omega.{arith}
+use lib.ListN.{length}
+use lib.Dec.{ltb}
+use borrow.Author.Tests.{ltb-true, ltb-false, lt-ltb, le-ltb}
+use Rattle.rules.specs.Words.{Refusal, plain, Loaded, accepted, rejected, read, placedAt, notPlaced, notOwned}
+use Rattle.rules.specs.Load.{Map, loadOf, mapOf}
+use Rattle.rules.specs.Place.{entry, partsOf, isSet, isStaged, isRW, isLane, heldBy, lengthOf, fieldByte, fieldBit, ownerOf}
+use Rattle.rules.specs.Refuse.{refuses, refuseIf, firstOf, exists, misdirected, unaccepted, judge}
+use Rattle.rules.specs.Beside.{placed, placeOf, ownedAs, isBit, ownerCall, entryVerdict}
+use Rattle.rules.specs.Demands.{Accepted}
+use Rattle.rules.proofs.Basics.Tests.{and-no}
+use Rattle.rules.proofs.Place.AcceptedMap.{GoodMap}
+use Rattle.rules.proofs.Load.Walks.{map-good}
+use Rattle.rules.proofs.Refusals.Orders.{order-refused, order-accepted}
+use Rattle.rules.proofs.Load.EntryHeads.{ro-after}
+
+module _ (count : ℕ) (first last : List ℕ) where
+  abbrev m : Map
+  m = mapOf count first last
+
+  -- place
+
+  module _ (s e p i : ℕ) where
+    -- an entry call that is refused
+    pub place-refused : (r : Refusal) → entryVerdict count first last e ≡ refuses r → notPlaced r ≡ placeOf count first last s e p i
+    unfolding entryVerdict placeOf judge exists
+    place-refused r h = go (loadOf count first last) refl
+      where
+        out : (t : Bool) → ltb e (length (m .entries)) ≡ t → firstOf (refuseIf (not t) (plain 10) ∷ []) ≡ refuses r
+            → notPlaced r ≡ placed (firstOf (judge m (read s e p i))) (placedAt (fieldByte (entry m e) p i) (fieldBit (entry m e) i))
+        out true q x = let o : _≡_ {A = ℕ} 0 1 = cc in absurd (omega arith)
+        out false q x = let z : plain 10 ≡ r = cc in rw (q, and-no (isSet s), ← z) refl
+
+        go : (x : Loaded) → loadOf count first last ≡ x → notPlaced r ≡ placeOf count first last s e p i
+        go (rejected r′) q =
+            let z : refuses r′ ≡ refuses r = sym (order-refused count first last r′ q _) ∙ h in
+            let y : r′ ≡ r = cc in
+            rw (order-refused count first last r′ q (judge m (read s e p i)), y) refl
+        go (accepted n k c t) q =
+            let ok : Accepted count first last = record { rwCount = n; roCount = k; staged = c; active = t; loads = q } in
+            rw (order-accepted count first last ok (judge m (read s e p i)))
+            (out (ltb e (length (m .entries))) refl (sym (order-accepted count first last ok _) ∙ h))
+
+    module _ (ok : Accepted count first last) (l : e < length (mapOf count first last .entries)) where
+      place-is : placeOf count first last s e p i ≡ placed (firstOf (judge m (read s e p i))) (placedAt (fieldByte (entry m e) p i) (fieldBit (entry m e) i))
+      unfolding placeOf
+      place-is = rw (order-accepted count first last ok (judge m (read s e p i))) refl
+
+      -- 10 of an entry that exists
+      pub place-10 : (isSet s && (ltb p (partsOf (entry (mapOf count first last) e)) && isLane i)) ≡ false → notPlaced (plain 10) ≡ placeOf count first last s e p i
+      unfolding judge exists
+      place-10 h = sym (place-is ∙ rw (lt-ltb e (length (m .entries)) l, h) refl)
+
+      module _ (h : (isSet s && (ltb p (partsOf (entry (mapOf count first last) e)) && isLane i)) ≡ true) where
+        pub place-11 : (isStaged s && not (isRW (mapOf count first last) e)) ≡ true → notPlaced (plain 11) ≡ placeOf count first last s e p i
+        unfolding judge exists misdirected
+        place-11 t = sym (place-is ∙ rw (lt-ltb e (length (m .entries)) l, h, t) refl)
+
+        pub place-at :
+            (isStaged s && not (isRW (mapOf count first last) e)) ≡ false
+            → placedAt (fieldByte (entry (mapOf count first last) e) p i) (fieldBit (entry (mapOf count first last) e) i) ≡ placeOf count first last s e p i
+        unfolding judge exists misdirected unaccepted
+        place-at t = sym (place-is ∙ rw (lt-ltb e (length (m .entries)) l, h, t) refl)
+
+  -- owner
+
+  module _ (s k q : ℕ) where
+    pub owner-refused : (r : Refusal) → loadOf count first last ≡ rejected r → notOwned r ≡ ownerCall count first last s k q
+    unfolding ownerCall
+    owner-refused r h = rw (order-refused count first last r h (refuseIf (not (isBit m s k q)) (plain 10) ∷ [])) refl
+
+    module _ (ok : Accepted count first last) where
+      pub owner-10 : isBit (mapOf count first last) s k q ≡ false → notOwned (plain 10) ≡ ownerCall count first last s k q
+      unfolding ownerCall
+      owner-10 h = rw (order-accepted count first last ok (refuseIf (not (isBit m s k q)) (plain 10) ∷ []), h) refl
+
+      pub owner-is : isBit (mapOf count first last) s k q ≡ true → ownedAs (ownerOf (mapOf count first last) s k q) ≡ ownerCall count first last s k q
+      unfolding ownerCall
+      owner-is h = rw (order-accepted count first last ok (refuseIf (not (isBit m s k q)) (plain 10) ∷ []), h) refl
+
+  -- a byte in the space of an entry lies in each set that holds the entry, and in no other
+  module _ (ok : Accepted count first last) (s e k : ℕ) (l : e < length (mapOf count first last .entries))
+      (low : entry (mapOf count first last) e .offset ≤ k) (top : k < entry (mapOf count first last) e .offset + entry (mapOf count first last) e .memory) where
+    g : GoodMap m
+    g = map-good count first last ok
+
+    before-end : (s′ : ℕ) → e < heldBy m s′ → k < lengthOf m s′
+    before-end s′ h = omega (arith, g .ends s′ e h)
+
+    pub space-in-set : ltb k (lengthOf (mapOf count first last) s) ≡ not (isStaged s && not (isRW (mapOf count first last) e))
+    unfolding heldBy lengthOf
+    space-in-set = go (isStaged s) (isRW m e) refl
+      where
+        go : (b t : Bool) → isRW m e ≡ t → ltb k (cond b (m .staged) (m .active)) ≡ not (b && not t)
+        go true true q = lt-ltb k (m .staged) (before-end 0 (ltb-true e (m .rwCount) q))
+        go true false q = le-ltb k (m .staged) (omega (arith, ro-after count first last ok e (ltb-false e (m .rwCount) q) l))
+        go false t q = lt-ltb k (m .active) (before-end 2 l)
+
+    -- a set that has the byte holds the entry
+    pub space-held : (isStaged s && not (isRW (mapOf count first last) e)) ≡ false → e < heldBy (mapOf count first last) s
+    unfolding heldBy
+    space-held h = go (isStaged s) (isRW m e) refl h
+      where
+        go : (b t : Bool) → isRW m e ≡ t → (b && not t) ≡ false → e < cond b (m .rwCount) (length (m .entries))
+        go true true q x = ltb-true e (m .rwCount) q
+        go true false q x = let o : _≡_ {A = ℕ} 0 1 = cc in absurd (omega arith)
+        go false t q x = l

@@ -1,0 +1,108 @@
+-- A small module on which both machines are run by computing. It also shows that the premises of demand 3 can be met.
+use mathlib.Core.Path.{_≡_, refl}
+use mathlib.Core.List.{List, [], _∷_, map}
+use Prim.Native.Nat.{ℕ, _+_}
+use native.Mathlib.Omega.{arith}
+use lib.IntN.{pos, negsuc}
+use lib.ListN.{replicate, length-replicate}
+use Rattle.rules.specs.Words.{plain, atLane, Call, select, write, read, byteWrite, byteRead, publish, apply, Answer, saysYes, number, refused}
+use Rattle.rules.specs.Numbers.{sum, any, lowest}
+use Rattle.rules.specs.Parameter.{rowOf}
+use Rattle.rules.specs.Descriptor.{maskBytes, highFirst, codesOf, stepOf, refuse, lengthChecks, contentChecks, decodeAt}
+use Rattle.rules.specs.Load.{foldBy, foldOf, walkOf, entriesFrom, stringsOf, loadOf, rwEntries, roEntries, entriesOf, total, mapOf}
+use Rattle.rules.specs.Place.{partsOf, widthOf, signedOf, heldBy, lengthOf, firstOwner, ownerOf}
+use Rattle.rules.specs.Accept.{within, inMask, inCodes, accepts, toBits, fromBits}
+use Rattle.rules.specs.Refuse.{check9, check8, check1to7, exists, misdirected, unaccepted, judge, atLowest, bankOrder, orderOf}
+use Rattle.rules.specs.Layout.{bankSize, setStart, appSelStart, appSelAt}
+use Rattle.rules.specs.Bank.{Bank, getField, putField, numberIn, withNumber, fieldBits, bankLacksApp, bankCopies, bankHoldsBad, bankPlan, loop, copyField, applyBank, bankDoes, bankCall, freshBank, freshCall, bankMakes}
+use Rattle.rules.specs.Table.{byteFrom, tableLacksApp, tableCopies, tableHoldsBad, tablePlan, tableDoes, tableCall, tableMakes}
+use Rattle.rules.specs.Machine.{call, run}
+use Rattle.rules.specs.Demands.{Accepted, bankRun, tableRun, ListAgrees}
+use Rattle.rules.proofs.Lists.Lists.{lists-agree}
+
+-- 02h at 0 for AppSel 1 and 2; opaque 13h at 1 and 2, with a last byte that is not read as flags; 04h at 3 with codes 0 to 3
+-- for AppSel 1, and a byte of surplus at 7
+abbrev rwString : List ℕ
+rwString = 0x02 ∷ 5 ∷ 3 ∷ 1 ∷ 0 ∷ 0x13 ∷ 5 ∷ 0 ∷ 2 ∷ 1 ∷ 0x04 ∷ 7 ∷ 1 ∷ 5 ∷ 0 ∷ 0 ∷ 0x0F ∷ []
+
+-- 12h at 8, index −1, step 2
+abbrev roString : List ℕ
+roString = 0x12 ∷ 7 ∷ 3 ∷ 8 ∷ 0 ∷ 0xFF ∷ 2 ∷ []
+
+-- a bank of other content than 0
+abbrev bank : Bank
+bank = replicate (bankSize + 1) 0xA5
+
+abbrev calls : List Call
+calls =
+    -- lane 3 uses application 2
+    select 0 3 2
+    ∷ write 0 0 0 3 (pos 1)
+    -- a code out of the mask, a field that 13h hasn't, an RO entry in a staged set, a lane that isn't there
+    ∷ write 0 2 0 3 (pos 4)
+    ∷ write 0 1 0 1 (pos 0)
+    ∷ write 0 3 0 1 (pos 0)
+    ∷ select 0 9 1
+    -- 04h: 3 in lane 3 and, not accepted but stored, 9 in lane 4
+    ∷ byteWrite 0 4 0x93
+    ∷ byteRead 0 4
+    -- the surplus byte is a gap
+    ∷ byteWrite 0 7 0xFF
+    ∷ byteRead 0 7
+    -- lane 4 has no AppSel, then a value that is not accepted
+    ∷ apply 0 0x0C
+    ∷ select 0 4 1
+    ∷ apply 0 0x0C
+    ∷ write 0 2 0 4 (pos 2)
+    ∷ apply 0 0x0C
+    -- AppSel 2 lacks 04h, so its lane 3 stays 0
+    ∷ byteRead 2 4
+    ∷ read 2 0 0 3
+    ∷ publish 3 0 5 (negsuc 13)
+    ∷ byteRead 2 12
+    ∷ read 2 3 0 5
+    ∷ publish 0 0 1 (pos 0)
+    ∷ []
+
+abbrev answers : List Answer
+answers =
+    saysYes
+    ∷ saysYes
+    ∷ refused (plain 12)
+    ∷ refused (plain 10)
+    ∷ refused (plain 11)
+    ∷ refused (plain 10)
+    ∷ saysYes
+    ∷ number (pos 0x93)
+    ∷ saysYes
+    ∷ number (pos 0)
+    ∷ refused (atLane 13 4)
+    ∷ saysYes
+    ∷ refused (atLane 14 4)
+    ∷ saysYes
+    ∷ saysYes
+    ∷ number (pos 0x20)
+    ∷ number (pos 1)
+    ∷ saysYes
+    ∷ number (pos 0xF2)
+    ∷ number (negsuc 13)
+    ∷ refused (plain 11)
+    ∷ []
+
+example-accepted : Accepted 2 rwString roString
+unfolding rowOf maskBytes highFirst codesOf stepOf refuse lengthChecks contentChecks decodeAt foldBy foldOf walkOf stringsOf loadOf
+example-accepted = record { rwCount = 3; roCount = 1; staged = 8; active = 16; loads = refl }
+
+-- the bank machine, computed
+pub example-bank : bankRun 2 rwString roString bank (map call calls) .0 ≡ answers
+unfolding sum any lowest rowOf maskBytes highFirst codesOf stepOf refuse lengthChecks contentChecks decodeAt foldBy foldOf walkOf entriesFrom stringsOf loadOf rwEntries roEntries entriesOf total mapOf partsOf widthOf signedOf heldBy lengthOf firstOwner ownerOf within inMask inCodes accepts toBits fromBits check9 check8 check1to7 exists misdirected unaccepted judge atLowest bankOrder getField putField numberIn withNumber fieldBits bankLacksApp bankCopies bankHoldsBad bankPlan loop copyField applyBank bankDoes bankCall freshBank freshCall bankMakes run bankSize setStart appSelStart appSelAt
+example-bank = refl
+
+-- the plain table, computed
+pub example-table : tableRun 2 rwString roString (map call calls) .0 ≡ answers
+unfolding sum any lowest rowOf maskBytes highFirst codesOf stepOf refuse lengthChecks contentChecks decodeAt foldBy foldOf walkOf entriesFrom stringsOf loadOf rwEntries roEntries entriesOf total mapOf partsOf widthOf signedOf heldBy lengthOf within inMask inCodes accepts toBits fromBits check9 check1to7 exists misdirected unaccepted judge atLowest orderOf byteFrom tableLacksApp tableCopies tableHoldsBad tablePlan tableDoes tableCall tableMakes run
+example-table = refl
+
+-- demand 3 of this module, bank and list: its premises are met
+pub example-agrees : ListAgrees 2 rwString roString bank (map call calls)
+example-agrees = lists-agree 2 rwString roString bank example-accepted (rw (length-replicate {A = ℕ} (bankSize + 1) 0xA5) (omega arith)) (map call calls)
