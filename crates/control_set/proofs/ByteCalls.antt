@@ -30,6 +30,7 @@ use Rattle.rules.proofs.Place.OwnerAt.{owner-surplus}
 use Rattle.rules.proofs.Place.PlaceCalls.{space-in-set, space-held}
 use Rattle.rules.proofs.Refusals.CallOrder.{judge-10, call-refused}
 use Rattle.rules.proofs.Refusals.Orders.{bank-order-refused, bank-order-accepted}
+use Rattle.rules.proofs.Bank.Places.{named-has-bytes}
 use Rattle.descriptor.specs.declared.Covered.the-variants.{Nothing as noEntry, Refused as notCovered}
 use Rattle.descriptor.specs.Cover.{coverOf}
 use Rattle.descriptor.proofs.TableRows.{parts-few, width-narrow}
@@ -99,7 +100,7 @@ module _ (count : ℕ) (first last : List ℕ) (size s k : ℕ) (h : sized count
           isSet = ltb→lt s 3 a;
           low = ltb→lt _ _ d;
           top = byte-small .1;
-          bits = λ y. rw (← c .offset-is, ← c .parts-is, ← c .width-is) (space-bits m (map-good count first last (c .ok)) s k n (ltb→lt s 3 a) held (c .low) (c .top) y);
+          bits = λ y. rw (← c .offset-is, ← c .parts-is, ← c .width-is) (space-bits m (map-good count first last (c .ok)) s k n (named-has-bytes s (ltb→lt s 3 a)) held (c .low) (c .top) y);
         }
 
 -- the ways out of a byte call

@@ -19,7 +19,7 @@ use Rattle.rules.specs.Place.{laneBit, Width}
 use Rattle.rules.specs.Refuse.{chooses}
 use Rattle.rules.specs.Layout.{bankSize, HasBytes, setStart, appSelAt}
 use Rattle.rules.specs.Bank.{Bank, merge, loop}
-use Rattle.rules.proofs.Bank.Places.{set-apart, app-no-set}
+use Rattle.rules.proofs.Bank.Places.{set-apart, app-no-set, named-has-bytes}
 use Rattle.rules.proofs.Place.Lanes.{lane-byte-lt}
 use Rattle.rules.proofs.Apply.Applied.{loop-inv}
 use Rattle.control_set.specs.declared.plan.Chosen.{Chosen}
@@ -37,7 +37,7 @@ pub spread-spot :
     → Spot b s (f .offset) p (f .width) i
 spread-spot {f} b size g s hs p i hp l u =
     let w : Width (f .width) = g .whole (omega arith) in
-    record { size = size; isSet = hs; whole = w; low = l; top = u; inside = omega (arith, digits-lt hp (lane-byte-lt (f .width) w i l u), g .inside) }
+    record { size = size; bytes = hs; whole = w; low = l; top = u; inside = omega (arith, digits-lt hp (lane-byte-lt (f .width) w i l u), g .inside) }
 
 -- what the copier does to its part it does to the bank
 pub merge-mid :
@@ -62,10 +62,10 @@ pub record Kept (b b′ : Bank) : Type 0 where
   pub rest : (k : ℕ) → Outside k → getD b′ k 0 ≡ getD b k 0
 
 pub app-outside : (s i : ℕ) → s < 2 → i ≤ 8 → Outside (appSelAt s i)
-app-outside s i hs hi j hj = app-no-set s i 2 j hs hi (omega arith) hj
+app-outside s i hs hi j hj = app-no-set s i 2 j hs hi (named-has-bytes 2 (omega arith)) hj
 
 pub staged-outside : (s k : ℕ) → s < 2 → k < 256 → Outside (setStart s + k)
-staged-outside s k hs hk j hj q = let e = set-apart s k 2 j (omega arith) (omega arith) hk hj q .0 in omega arith
+staged-outside s k hs hk j hj q = let e = set-apart s k 2 j (named-has-bytes s (omega arith)) (named-has-bytes 2 (omega arith)) hk hj q .0 in omega arith
 
 kept-same : (b : Bank) → Kept b b
 kept-same b = record { size = refl; rest = λ k o. refl }
@@ -145,7 +145,7 @@ module _ {c : Chosen} {b₀ b : Bank} (a : Asked c b₀) (k : Kept b₀ b) {f : 
 
   bits-same : (p i : ℕ) → p < f .parts → 1 ≤ i → i ≤ 8 → bitsAt b (c .set) (f .offset) p (f .width) i ≡ bitsAt b₀ (c .set) (f .offset) p (f .width) i
   bits-same p i hp l u =
-      let t = spread-spot b₀ (a .size) g (c .set) (omega (arith, a .staged)) p i hp l u .inside in
+      let t = spread-spot b₀ (a .size) g (c .set) (named-has-bytes (c .set) (omega (arith, a .staged))) p i hp l u .inside in
       ap (λ (x : ℕ). cut x (laneBit (f .width) i) (f .width)) (k .rest (setStart (c .set) + byteIn (f .offset) p (f .width) i) (staged-outside (c .set) _ (a .staged) t))
 
   lane-same : (p j : ℕ) → p < f .parts → j < 8 → (x : Bank) → copyLane c f b p (suc j) x ≡ copyLane c f b₀ p (suc j) x

@@ -26,6 +26,7 @@ use Rattle.rules.proofs.Place.Fields.{field-of, active-held, read-held}
 use Rattle.rules.proofs.Load.Walks.{map-good}
 use Rattle.rules.proofs.Refusals.CallOrder.{judge-10, call-refused}
 use Rattle.rules.proofs.Refusals.Orders.{bank-order-accepted}
+use Rattle.rules.proofs.Bank.Places.{named-has-bytes}
 use Rattle.descriptor.specs.declared.Found.{Found}
 use Rattle.descriptor.specs.declared.Found.the-variants.{In as isIn, Refused as notFound}
 use Rattle.descriptor.specs.declared.Named.{Named}
@@ -140,7 +141,7 @@ module _ (count : ℕ) (first last : List ℕ) (b : Bank) {e : ℕ} {f : Named} 
       → Field (mapOf count first last) s e p i
   write-there s p i h k =
       let (a, c) = and₂ (isSet s) (ltb p (f .parts) && isLane i) (from-true h) in
-      field-there s p i (ltb→lt s 3 a) (rw-held n good s e (ltb→lt _ _ (is-rw (or-no (eqb s 2) (f .ro) k .1)))) (is-true _ c)
+      field-there s p i (named-has-bytes s (ltb→lt s 3 a)) (rw-held n good s e (ltb→lt _ _ (is-rw (or-no (eqb s 2) (f .ro) k .1)))) (is-true _ c)
 
   pub read-there :
       (s p i : ℕ)
@@ -150,10 +151,10 @@ module _ (count : ℕ) (first last : List ℕ) (b : Bank) {e : ℕ} {f : Named} 
   read-there s p i h k =
       let (a, c) = and₂ (isSet s) (ltb p (f .parts) && isLane i) (from-true h) in
       let l : (isStaged s && not (isRW n e)) ≡ false = rw (← (side-is count first last (t .named))) k in
-      field-there s p i (ltb→lt s 3 a) (read-held n good s e p i a (from-true (has p i ∙ is-true _ c)) (from-true (ap not l))) (is-true _ c)
+      field-there s p i (named-has-bytes s (ltb→lt s 3 a)) (read-held n good s e p i a (from-true (has p i ∙ is-true _ c)) (from-true (ap not l))) (is-true _ c)
 
   pub publish-there : (p i : ℕ) → (ltb p (f .parts) && isLane i) ≡ true → Field (mapOf count first last) 2 e p i
-  publish-there p i h = field-there 2 p i (omega arith) (active-held n e p i (from-true (has p i ∙ h))) h
+  publish-there p i h = field-there 2 p i (named-has-bytes 2 (omega arith)) (active-held n e p i (from-true (has p i ∙ h))) h
 
   -- an accepted value has the field's bits
   pub value-bits :

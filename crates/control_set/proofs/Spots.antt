@@ -27,7 +27,7 @@ module _ (m : Map) (b : Bank) (s e p i : ℕ) (x : Entry) (found : x ≡ entry m
   pub spot-field : GoodMap m → Field m s e p i → bankSize ≤ length b → Spot b s (x .offset) p w i
   spot-field g f h =
       rw (width, found)
-      (record { size = h; isSet = f .set; whole = field-width m g f; low = f .low; top = f .top; inside = in-set m g f })
+      (record { size = h; bytes = f .set; whole = field-width m g f; low = f .low; top = f .top; inside = in-set m g f })
 
   pub bits-field : bitsAt b s (x .offset) p w i ≡ getField m b s e p i
   unfolding getField

@@ -16,7 +16,7 @@ use Rattle.rules.specs.Bank.{Bank, merge, loop}
 use Rattle.rules.proofs.Place.Lanes.{width-pos, full}
 use Rattle.control_set.specs.declared.plan.Chosen.{Chosen}
 use Rattle.control_set.specs.declared.plan.Fields.{Fields}
-use Rattle.rules.proofs.Bank.Places.{set-inside}
+use Rattle.rules.proofs.Bank.Places.{set-inside, named-has-bytes}
 use Rattle.control_set.proofs.Copies.{loop-ext}
 use Rattle.control_set.specs.Plan.{Spread, copiesBy, copyLane, copyPart, copyEntry, byteCopied, bytesCopied}
 
@@ -101,7 +101,7 @@ module _ (c : Chosen) (f : Fields) (g : Spread f) (size : ℕ) (large : bankSize
   put k b = byteCopied (c .set) f b₀ k b
 
   in-active : (k : ℕ) → k < f .parts * f .width → setStart 2 + (f .offset + k) < size
-  in-active k h = omega (arith, set-inside 2 (f .offset + k) (omega arith) (omega (arith, g .inside)))
+  in-active k h = omega (arith, set-inside 2 (f .offset + k) (named-has-bytes 2 (omega arith)) (omega (arith, g .inside)))
 
   put-bytes : (k : ℕ) → k < f .parts * f .width → (b : Bank) → Bytes size b → Bytes size (put k b)
   put-bytes k h b s = bytes-set (setStart 2 + (f .offset + k)) _ (in-active k h) (source .byte (setStart (c .set) + (f .offset + k))) s

@@ -20,7 +20,7 @@ byteIn offset p w i = offset + p * w + laneByte w i
 -- a field of a whole bank: of a set and a lane that exist, in its set's 256 bytes
 pub record Spot (b : Bank) (s offset p w i : ℕ) : Type 0 where
   pub size : bankSize ≤ length b
-  pub isSet : HasBytes s
+  pub bytes : HasBytes s
   pub whole : Width w
   pub low : 1 ≤ i
   pub top : i ≤ 8

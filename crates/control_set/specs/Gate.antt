@@ -11,7 +11,7 @@ use Rattle.rules.specs.declared.Answer.the-variants.{Yes as saysYes, Refused as
 use Rattle.rules.specs.declared.Refusal.the-variants.{Plain as plain}
 use Rattle.rules.specs.Load.{loadOf, mapOf}
 use Rattle.rules.specs.Place.{isSet, lengthOf}
-use Rattle.rules.specs.Layout.{bankSize, HasBytes}
+use Rattle.rules.specs.Layout.{bankSize}
 use Rattle.rules.specs.Refuse.{Verdict, refuses, firstOf, bankOrder}
 use Rattle.rules.specs.Bank.{fieldBits}
 use Rattle.rules.specs.Demands.{Accepted}
@@ -53,7 +53,7 @@ refusedOf (notFound r) = refused r
 pub record Reached (count : ℕ) (rw ro : List ℕ) (size s k : ℕ) (fields : Bool) : Type 0 where
   pub size-is : bankSize ≤ size
   pub ok : Accepted count rw ro
-  pub isSet : HasBytes s
+  pub isSet : s < 3
   pub low : k < lengthOf (mapOf count rw ro) s
   pub top : k < 256
   pub bits : (x : ℕ) → fieldBits (mapOf count rw ro) s k x ≡ cond fields (x % 256) 0

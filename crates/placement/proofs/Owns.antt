@@ -19,6 +19,7 @@ use Rattle.rules.proofs.Load.Walks.{map-good}
 use Rattle.rules.proofs.Load.EntryHeads.{entry-fits}
 use Rattle.rules.proofs.Place.OwnerAt.{owner-field, owner-surplus}
 use Rattle.rules.proofs.Place.PlaceCalls.{owner-10, owner-is, space-in-set, space-held}
+use Rattle.rules.proofs.Bank.Places.{named-has-bytes}
 use Rattle.descriptor.proofs.TableRows.{parts-few, width-narrow}
 use Rattle.descriptor.proofs.Covers.{Covering}
 use Rattle.placement.specs.Owner.{fieldIn}
@@ -73,10 +74,10 @@ module _ (count : ℕ) (first last : List ℕ) {k : ℕ} {inRO : Bool} {n o part
             ≡ ownedAs (ownerOf m s k q)
         go true x =
             let l : k - entry m n .offset < partsOf (entry m n) * widthOf (entry m n) = ltb-true _ _ x in
-            rw add-one (sym (ap ownedAs (owner-field m g s k q set bit (record { ent = held; low = c .low; top = omega arith }))))
+            rw add-one (sym (ap ownedAs (owner-field m g s k q (named-has-bytes s set) bit (record { ent = held; low = c .low; top = omega arith }))))
         go false x =
             let l : partsOf (entry m n) * widthOf (entry m n) ≤ k - entry m n .offset = ltb-false _ _ x in
-            sym (ap ownedAs (owner-surplus m g s k q set bit n held (omega (arith, c .low)) (c .top)))
+            sym (ap ownedAs (owner-surplus m g s k q (named-has-bytes s set) bit n held (omega (arith, c .low)) (c .top)))
 
     -- what the code subtracts, and what it multiplies by 8
     pub owns-small : (parts < 16) × (width < 16) × (o ≤ k) × (k - o ≤ 256) × (q < 8)

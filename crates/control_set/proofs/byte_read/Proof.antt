@@ -11,6 +11,7 @@ use Rattle.rules.specs.declared.Call.{Call}
 use Rattle.rules.specs.declared.Answer.{Answer}
 use Rattle.rules.specs.Layout.{setStart}
 use Rattle.rules.proofs.Refusals.CallOrder.{meets}
+use Rattle.rules.proofs.Bank.Places.{named-has-bytes}
 use Rattle.control_set.specs.Gate.{Reached}
 use Rattle.control_set.proofs.ByteCalls.{byte-unreached, byte-read-away, byte-read-done}
 use Rattle.control_set.proofs.byte_read.Statement.{statement}
@@ -41,7 +42,7 @@ returns c =
     meets (byte-unreached (g .count) (now (g .rw)) (now (g .ro)) (now (g .bank)) (g .set) (g .offset) (Call.ByteRead (g .set) (g .offset)) (byte-read-away (g .count) (now (g .rw)) (now (g .ro)) (now (g .bank)) (g .set) (g .offset)) (c .before .enum-told .given .1) (k .admit-byte .ensures)) (c .byte-refused .ensures) refl .0
 
 byte-of-requires : tie.Need-byte-of-requires
-byte-of-requires c κs = let t = reached (c .before) in (t .isSet, t .top)
+byte-of-requires c κs = let t = reached (c .before) in (named-has-bytes _ (t .isSet), t .top)
 
 shared-slice-read-wide : tie.Need-shared-slice-read-wide
 shared-slice-read-wide c = let b = c .before in omega (arith, b .byte-of .ensures .1, reached (b .before .before) .size-is)

@@ -6,6 +6,7 @@ use lib.ListN.{length, set}
 use denote.Ref.{now}
 use Rattle.rules.specs.declared.Call.{Call}
 use Rattle.rules.proofs.Refusals.CallOrder.{meets}
+use Rattle.rules.proofs.Bank.Places.{named-has-bytes}
 use Rattle.control_set.specs.Gate.{Reached}
 use Rattle.control_set.proofs.ByteCalls.{byte-unreached, byte-write-away, byte-write-11, byte-write-done}
 use Rattle.control_set.proofs.byte_write.Statement.{statement}
@@ -41,7 +42,7 @@ returns-2 c =
     meets (byte-write-11 (g .count) (now (g .rw)) (now (g .ro)) (now (g .bank)) (g .set) (g .offset) (reached (c .before)) (g .value) (c .if1 .taken)) refl refl
 
 byte-of-requires : tie.Need-byte-of-requires
-byte-of-requires c κs = let t = reached (c .before .before) in (t .isSet, t .top)
+byte-of-requires c κs = let t = reached (c .before .before) in (named-has-bytes _ (t .isSet), t .top)
 
 slice-write-bank : tie.Need-slice-write-bank
 slice-write-bank c = omega (arith, c .byte-of .ensures .1, reached (c .before .before .before) .size-is)
@@ -56,7 +57,7 @@ returns-3 c =
     meets (byte-write-done (g .count) (now (g .rw)) (now (g .ro)) (now (g .bank)) (g .set) (g .offset) (reached k) (g .value) (c .before .before .if1 .left) (omega (arith, k .before .before .before .before .before .before .before .fits .value))) refl (rw (c .before .if2 .taken, c .byte-of .ensures .0) refl)
 
 byte-of-requires-2 : tie.Need-byte-of-requires-2
-byte-of-requires-2 c κs = let t = reached (c .before .before) in (t .isSet, t .top)
+byte-of-requires-2 c κs = let t = reached (c .before .before) in (named-has-bytes _ (t .isSet), t .top)
 
 slice-write-bank-2 : tie.Need-slice-write-bank-2
 slice-write-bank-2 c = omega (arith, c .byte-of2 .ensures .1, reached (c .before .before .before) .size-is)

@@ -15,6 +15,7 @@ use Rattle.rules.specs.Accept.{fromBits}
 use Rattle.rules.specs.Layout.{bankSize, appSelAt}
 use Rattle.rules.specs.Bank.{Bank, appSelIn, getField, putField, numberIn, withNumber, bankCopies, loop, copyField, applyBank}
 use Rattle.rules.specs.Table.{Table, renumbered, stored}
+use Rattle.rules.proofs.Bank.Places.{named-has-bytes}
 use Rattle.rules.proofs.Basics.Tests.{and₃, and₄, by-test, by-test₂, is-true, both-true}
 use Rattle.rules.proofs.Place.AcceptedMap.{GoodMap, rw-held}
 use Rattle.rules.proofs.Place.Fields.{field-in-set, no-app}
@@ -59,7 +60,7 @@ module _ (m : Map) (g : GoodMap m) (s lanes : ℕ) (b₀ : Bank) where
   lanesOf e p = loop 8 (λ j. copyField m s lanes b₀ e p (suc j))
 
   rw-field : {e p j : ℕ} → e < m .rwCount → p < partsOf (entry m e) → j < 8 → Field m 2 e p (suc j)
-  rw-field {e} he hp hj = record { set = omega arith; ent = rw-held m g 2 e he; part = hp; low = omega arith; top = omega arith }
+  rw-field {e} he hp hj = record { set = named-has-bytes 2 (omega arith); ent = rw-held m g 2 e he; part = hp; low = omega arith; top = omega arith }
 
   -- a copy of a field keeps P
   abbrev pub CopiesKeep : (Bank → Type 0) → Type 0
@@ -175,7 +176,7 @@ module _ (m : Map) (g : GoodMap m) (s lanes : ℕ) (b₀ : Bank) where
         (getField m b₀ s′ e p i)
         (λ y. let (a₁, a₂, a₃) = and₃ (eqb s′ 2) (isRW m e) (bankCopies m b₀ s lanes e i) y in
         let he : e < m .rwCount = ltb→lt _ _ a₂ in
-        rw (eqb→eq s′ 2 a₁) (field-copied e p i he (field-in-set 2 (omega arith) (rw-held m g 2 e he) f) a₃))
+        rw (eqb→eq s′ 2 a₁) (field-copied e p i he (field-in-set 2 (named-has-bytes 2 (omega arith)) (rw-held m g 2 e he) f) a₃))
         (field-left s′ e p i f)
 
     -- the AppSels are left
@@ -210,7 +211,7 @@ module _ (m : Map) (g : GoodMap m) (tail : List ℕ) (t : Table) (b₀ : Bank) (
   copy-related : CopiesKeep m g s lanes b₀ Related
   unfolding withNumber
   copy-related e p i b he f c r =
-      let from : Field m s e p i = field-in-set s (omega arith) (rw-held m g s e he) f in
+      let from : Field m s e p i = field-in-set s (named-has-bytes s (omega arith)) (rw-held m g s e he) f in
       let same : putField m b 2 e p i (getField m b₀ s e p i) ≡ withNumber m b 2 e p i (numberIn m b₀ s e p i) = ap (putField m b 2 e p i) (sym (bits-of m g b₀ from)) in
       rw same (stored (r .0) 2 e p i (numberIn m b₀ s e p i), put-holds m g tail b (r .0) (r .1) 2 e p i (numberIn m b₀ s e p i) f (number-fits m g b₀ from), r .2)
 

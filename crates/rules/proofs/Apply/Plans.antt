@@ -12,6 +12,7 @@ use Rattle.rules.specs.Accept.{accepts}
 use Rattle.rules.specs.Refuse.{firstOf, atLowest}
 use Rattle.rules.specs.Bank.{Bank, bankLacksApp, bankCopies, bankHoldsBad, bankPlan}
 use Rattle.rules.specs.Table.{Table, tableLacksApp, tableCopies, tableHoldsBad, tablePlan}
+use Rattle.rules.proofs.Bank.Places.{named-has-bytes}
 use Rattle.rules.proofs.Basics.Any.{any-ext, lowest-ext}
 use Rattle.rules.proofs.Place.AcceptedMap.{GoodMap, rw-held}
 use Rattle.rules.proofs.Lists.Relation.{Holds}
@@ -22,7 +23,7 @@ lowest-same n f h q = rw (lowest-ext 8 1 f h (λ j l u. q j l (omega arith)))
 
 module _ (m : Map) (g : GoodMap m) (tail : List ℕ) (b : Bank) (t : Table) (r : Holds m tail b t) (s lanes : ℕ) (hs : s < 2) where
   pub staged-field : {e p i : ℕ} → e < m .rwCount → p < partsOf (entry m e) → 1 ≤ i → i ≤ 8 → Field m s e p i
-  staged-field {e} he hp l u = record { set = omega arith; ent = rw-held m g s e he; part = hp; low = l; top = u }
+  staged-field {e} he hp l u = record { set = named-has-bytes s (omega arith); ent = rw-held m g s e he; part = hp; low = l; top = u }
 
   pub copies-same : (e i : ℕ) → 1 ≤ i → i ≤ 8 → bankCopies m b s lanes e i ≡ tableCopies m t s lanes e i
   unfolding bankCopies tableCopies

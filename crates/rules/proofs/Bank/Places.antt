@@ -4,10 +4,29 @@ use mathlib.Core.Path.{_≡_, refl}
 use mathlib.Core.Logic.{_≢_}
 use Prim.Native.Nat.{ℕ, zero, suc, _+_, _*_, _≤_, _<_}
 use native.Mathlib.Omega.{arith}
-use Rattle.rules.specs.Layout.{bankSize, HasBytes, setStart, appSelStart, appSelAt}
+use lib.Dec.{T, ltb→lt, lt→ltb}
+use Rattle.rules.specs.Layout.{bankSize, HasBytes, hasBytes, setStart, appSelStart, appSelAt}
+
+-- the sets that have bytes: the test, and those that a call may name
+pub has-bytes : (s : ℕ) → T (hasBytes s) → HasBytes s
+unfolding HasBytes hasBytes
+has-bytes s h = ltb→lt s 3 h
+
+pub has-bytes-test : (s : ℕ) → HasBytes s → T (hasBytes s)
+unfolding HasBytes hasBytes
+has-bytes-test s h = lt→ltb s 3 h
+
+-- every set that has bytes may be named
+pub has-bytes-named : (s : ℕ) → HasBytes s → s < 3
+unfolding HasBytes
+has-bytes-named s h = h
+
+pub named-has-bytes : (s : ℕ) → s < 3 → HasBytes s
+unfolding HasBytes
+named-has-bytes s h = h
 
 set-start : (s : ℕ) → HasBytes s → setStart s ≡ 256 * s
-unfolding setStart
+unfolding setStart HasBytes
 set-start zero h = refl
 set-start (suc zero) h = refl
 set-start (suc (suc zero)) h = refl
@@ -43,7 +62,7 @@ app-start-last (suc s) h = refl
 
 -- byte k of a set
 pub set-inside : (s k : ℕ) → HasBytes s → k < 256 → setStart s + k < bankSize
-unfolding bankSize
+unfolding bankSize HasBytes
 set-inside s k h l = omega (arith, set-start s h)
 
 pub set-apart : (s k s′ k′ : ℕ) → HasBytes s → HasBytes s′ → k < 256 → k′ < 256 → setStart s + k ≡ setStart s′ + k′ → (s ≡ s′) × (k ≡ k′)
@@ -63,5 +82,5 @@ app-apart s i s′ i′ h h′ l u l′ u′ q =
     (e, omega (arith, app-start s h, app-start s′ h′))
 
 pub app-no-set : (s i s′ k : ℕ) → s < 2 → i ≤ 8 → HasBytes s′ → k < 256 → appSelAt s i ≢ setStart s′ + k
-unfolding appSelAt
+unfolding appSelAt HasBytes
 app-no-set s i s′ k h u h′ l q = omega (arith, app-start s h, set-start s′ h′)

@@ -20,7 +20,7 @@ use Rattle.rules.proofs.Basics.Tests.{and₃, by-test₂, either, is-fa
 use Rattle.rules.proofs.Basics.Any.{any-ext}
 use Rattle.rules.proofs.Place.AcceptedMap.{GoodMap, rw-held}
 use Rattle.rules.proofs.Load.Walks.{map-good}
-use Rattle.rules.proofs.Bank.Places.{app-inside}
+use Rattle.rules.proofs.Bank.Places.{app-inside, named-has-bytes}
 use Rattle.rules.proofs.Place.Fields.{field-in-set, no-app}
 use Rattle.rules.proofs.Bank.FieldWritten.{eqb₄, get-put-any, put-elsewhere}
 use Rattle.rules.proofs.Lists.Allowed.{select-allowed, write-field, write-fits, read-field, publish-field, publish-fits, apply-staged, bits-lt}
@@ -77,7 +77,7 @@ module _ (m : Map) (g : GoodMap m) (b b′ : Bank) (size : bankSize ≤ length b
               ∙ rw (same-copies s lanes e hs)
               (by-test₂ _≡_ (eqb s′ 2 && (isRW m e && bankCopies m b′ s lanes e j))
               (getField m b s e p j) (getField m b s′ e p j) (getField m b′ s e p j) (getField m b′ s′ e p j)
-              (λ y. r .fields s e p (field-in-set s (omega arith) (rw-held m g s e (ltb→lt _ _ (and₃ (eqb s′ 2) (isRW m e) _ y .1))) f))
+              (λ y. r .fields s e p (field-in-set s (named-has-bytes s (omega arith)) (rw-held m g s e (ltb→lt _ _ (and₃ (eqb s′ 2) (isRW m e) _ y .1))) f))
               (λ _. r .fields s′ e p f))
               ∙ sym (apply-field m g s lanes b′ size′ s′ e p j f);
           apps = λ s′ hs′.
@@ -109,7 +109,7 @@ module _ (m : Map) (g : GoodMap m) (b b′ : Bank) (size : bankSize ≤ length b
             ≡ (bankCopies m b′ s lanes e i && not (accepts (entry m e) (numberIn m b′ s e p i)))
         go e p he hp (inl y) =
             ap₂ (λ c v. c && not (accepts (entry m e) v)) (same-copies i l u (same i l u y) s lanes e hs)
-            (same-number i l u (same i l u y) s e p (record { set = omega arith; ent = rw-held m g s e he; part = hp; low = l; top = u }))
+            (same-number i l u (same i l u y) s e p (record { set = named-has-bytes s (omega arith); ent = rw-held m g s e he; part = hp; low = l; top = u }))
         go e p he hp (inr n) = rw (is-false (chooses lanes i) n)
 
     plan-alike : firstOf (bankPlan m (apply s lanes) b) ≡ firstOf (bankPlan m (apply s lanes) b′)

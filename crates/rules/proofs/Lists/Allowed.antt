@@ -9,6 +9,7 @@ use Rattle.rules.specs.Load.{Map}
 use Rattle.rules.specs.Place.{entry, widthOf, signedOf, isSet, isRW, hasField, Field}
 use Rattle.rules.specs.Accept.{accepts, toBits}
 use Rattle.rules.specs.Refuse.{exists, misdirected, unaccepted}
+use Rattle.rules.proofs.Bank.Places.{named-has-bytes}
 use Rattle.rules.proofs.Basics.Tests.{and₂, and₃, not-or, not-not}
 use Rattle.rules.proofs.Place.Lanes.{width-pos}
 use Rattle.rules.proofs.Table.Numbers.{fits, to-lt}
@@ -38,7 +39,7 @@ module _ (m : Map) where
 
   pub publish-field : {e p i : ℕ} {v : ℤ} → Judged m (publish e p i v) → Field m 2 e p i
   unfolding exists
-  publish-field {e} {p} {i} j = field-of m 2 e p i (omega arith) (active-held m e p i (j .there)) (j .there)
+  publish-field {e} {p} {i} j = field-of m 2 e p i (named-has-bytes 2 (omega arith)) (active-held m e p i (j .there)) (j .there)
 
 module _ (m : Map) (g : GoodMap m) where
   pub write-field : {s e p i : ℕ} {v : ℤ} → Judged m (write s e p i v) → Field m s e p i
@@ -46,13 +47,13 @@ module _ (m : Map) (g : GoodMap m) where
   write-field {s} {e} {p} {i} j =
       let (h₁, h₂) = and₂ (isSet s) (hasField m e p i) (j .there) in
       let (h₃, h₄) = not-or (eqb s 2) (not (isRW m e)) (j .may) in
-      field-of m s e p i (ltb→lt _ _ h₁) (rw-held m g s e (ltb→lt _ _ (not-not (isRW m e) h₄))) h₂
+      field-of m s e p i (named-has-bytes s (ltb→lt _ _ h₁)) (rw-held m g s e (ltb→lt _ _ (not-not (isRW m e) h₄))) h₂
 
   pub read-field : {s e p i : ℕ} → Judged m (read s e p i) → Field m s e p i
   unfolding exists misdirected
   read-field {s} {e} {p} {i} j =
       let (h₁, h₂) = and₂ (isSet s) (hasField m e p i) (j .there) in
-      field-of m s e p i (ltb→lt _ _ h₁) (read-held m g s e p i h₁ h₂ (j .may)) h₂
+      field-of m s e p i (named-has-bytes s (ltb→lt _ _ h₁)) (read-held m g s e p i h₁ h₂ (j .may)) h₂
 
   -- the bits of a number that fits a field
   pub bits-lt : {s e p i : ℕ} (v : ℤ) → Field m s e p i → T (fits (signedOf (entry m e)) (widthOf (entry m e)) v) → toBits (widthOf (entry m e)) v < 2 ^ widthOf (entry m e)

@@ -12,10 +12,11 @@ use Rattle.rules.specs.Words.{Call, select, write, read, byteWrite, byte
 use Rattle.rules.specs.Load.{Map}
 use Rattle.rules.specs.Place.{entry, widthOf, isSet, isRW, holds, lengthOf, Field}
 use Rattle.rules.specs.Accept.{toBits}
-use Rattle.rules.specs.Layout.{setStart}
+use Rattle.rules.specs.Layout.{HasBytes, setStart}
 use Rattle.rules.specs.Refuse.{firstOf, exists, misdirected, unaccepted}
 use Rattle.rules.specs.Bank.{Bank, numberIn, bankCopies, bankPlan, bankDoes}
 use Rattle.rules.specs.Table.{Table, tablePlan, changes, tableDoes}
+use Rattle.rules.proofs.Bank.Places.{named-has-bytes}
 use Rattle.rules.proofs.Basics.Tests.{and₂, either, is-true, is-false, and-no}
 use Rattle.rules.proofs.Place.AcceptedMap.{GoodMap}
 use Rattle.rules.proofs.Place.Fields.{field-holds}
@@ -52,12 +53,12 @@ module _ (m : Map) (g : GoodMap m) (tail : List ℕ) (b : Bank) (t : Table) (r :
   does-byteWrite s k v j =
       let (h₁, h₂) = and₂ (isSet s) (ltb k (lengthOf m s)) (j .there) in
       let hk : k < lengthOf m s = ltb→lt _ _ h₂ in
-      record { answer = refl; after = byte-holds m g tail b t r s k v (ltb→lt _ _ h₁) (omega (arith, g .lengths s)) }
+      record { answer = refl; after = byte-holds m g tail b t r s k v (named-has-bytes s (ltb→lt _ _ h₁)) (omega (arith, g .lengths s)) }
 
   does-byteRead : (s k : ℕ) → Judged m (byteRead s k) → Same m tail (bankDoes m (byteRead s k) b) (tableDoes m (byteRead s k) t)
   unfolding bankDoes tableDoes exists misdirected unaccepted
   does-byteRead s k j =
-      let hs : s < 3 = ltb→lt _ _ (and₂ (isSet s) (ltb k (lengthOf m s)) (j .there) .0) in
+      let hs : HasBytes s = named-has-bytes s (ltb→lt _ _ (and₂ (isSet s) (ltb k (lengthOf m s)) (j .there) .0)) in
       record {
         answer = ap (λ n. number (pos n))
             (field-bits m g s k hs (getD b (setStart s + k) 0)

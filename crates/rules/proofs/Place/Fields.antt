@@ -16,17 +16,17 @@ use Rattle.rules.specs.Layout.{bankSize, HasBytes, hasBytes, setStart, a
 use Rattle.rules.specs.Bank.{fieldAt}
 use Rattle.rules.proofs.Basics.Tests.{and₂, and₄, and₅, both-true, from-true, either, not-not, not-and}
 use Rattle.rules.proofs.Place.Lanes.{lane-byte-lt, lane-room}
-use Rattle.rules.proofs.Bank.Places.{set-inside, set-apart, app-no-set}
+use Rattle.rules.proofs.Bank.Places.{set-inside, set-apart, app-no-set, has-bytes, has-bytes-test}
 use Rattle.rules.proofs.Place.AcceptedMap.{GoodMap, rw-held, entry-good, entry-ends, entries-apart}
 
 pub holds-field : (m : Map) (s e p i : ℕ) → T (holds m s e p i) → Field m s e p i
 holds-field m s e p i h =
     let (h₀, h₁, h₂, h₃, h₄) = and₅ (hasBytes s) (ltb e (heldBy m s)) (ltb p (partsOf (entry m e))) (leb 1 i) (leb i 8) h in
-    record { set = ltb→lt _ _ h₀; ent = ltb→lt _ _ h₁; part = ltb→lt _ _ h₂; low = leb→le _ _ h₃; top = leb→le _ _ h₄ }
+    record { set = has-bytes s h₀; ent = ltb→lt _ _ h₁; part = ltb→lt _ _ h₂; low = leb→le _ _ h₃; top = leb→le _ _ h₄ }
 
 pub field-holds : {m : Map} {s e p i : ℕ} → Field m s e p i → T (holds m s e p i)
 field-holds {m} {s} {e} {p} {i} f =
-    both-true (hasBytes s) _ (lt→ltb _ _ (f .set))
+    both-true (hasBytes s) _ (has-bytes-test s (f .set))
     (both-true (ltb e (heldBy m s)) _ (lt→ltb _ _ (f .ent))
     (both-true (ltb p (partsOf (entry m e))) _ (lt→ltb _ _ (f .part)) (both-true (leb 1 i) _ (le→leb _ _ (f .low)) (le→leb _ _ (f .top)))))
 

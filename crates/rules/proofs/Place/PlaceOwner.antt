@@ -15,6 +15,7 @@ use Rattle.rules.specs.Place.{nothing, entry, partsOf, widthOf, isSet, i
 use Rattle.rules.specs.Refuse.{Verdict, passes, refuses, refuseIf, firstOf, exists, misdirected, unaccepted, judge}
 use Rattle.rules.specs.Beside.{placed, placeOf, ownedAs, owned, isBit, ownerCall}
 use Rattle.rules.specs.Demands.{Accepted, PlaceCovers, OwnerAndPlace}
+use Rattle.rules.proofs.Bank.Places.{named-has-bytes, has-bytes-named}
 use Rattle.rules.proofs.Basics.Tests.{and₂, either, is-true, is-false, both-true}
 use Rattle.rules.proofs.Table.Columns.{accepts-says, shape-says, sign-says}
 use Rattle.rules.proofs.Place.Lanes.{width-pos}
@@ -43,7 +44,7 @@ module _ (m : Map) (g : GoodMap m) where
   field-reads {s} {e} {p} {i} f =
       judged-passes m (read s e p i)
       (record {
-        there = both-true (isSet s) _ (lt→ltb _ _ (f .set))
+        there = both-true (isSet s) _ (lt→ltb _ _ (has-bytes-named s (f .set)))
             (both-true (ltb e (length (m .entries))) _ (lt→ltb _ _ (held-lt m g s e (f .ent)))
             (both-true (ltb p (partsOf (entry m e))) _ (lt→ltb _ _ (f .part)) (both-true (leb 1 i) _ (le→leb _ _ (f .low)) (le→leb _ _ (f .top)))));
         may = held-allowed s e (f .ent);
@@ -125,7 +126,7 @@ module _ (count : ℕ) (first last : List ℕ) (ok : Accepted count first last) 
       record {
         field = f;
         covers = record { byte = a .byte; low = omega (arith, a .bit, c .low); top = omega (arith, a .bit, c .top) };
-        there = bit-there s k q (f .set) hk hq;
+        there = bit-there s k q (has-bytes-named s (f .set)) hk hq;
         short = hk;
         bit = hq;
       }
@@ -148,7 +149,7 @@ module _ (count : ℕ) (first last : List ℕ) (ok : Accepted count first last) 
       go : T (isBit m s k q) ⊎ T (not (isBit m s k q)) → PlaceCovers count first last s e p i k q
       go (inl t) =
           let hs : s < 3 = ltb→lt _ _ (and₂ (isSet s) (ltb k (lengthOf m s) && ltb q 8) t .0) in
-          let (f, c) = owner-covers m g s k q hs e p i (owned-field (ownerOf m s k q) (sym (owner-in s k q t) ∙ h)) in
+          let (f, c) = owner-covers m g s k q (named-has-bytes s hs) e p i (owned-field (ownerOf m s k q) (sym (owner-in s k q t) ∙ h)) in
           covered-place s e p i k q f c
       go (inr t) = let z : notOwned (plain 10) ≡ ownedBy e p i = sym (owner-out s k q t) ∙ h in let o : _≡_ {A = ℕ} 0 1 = cc in absurd (omega arith)
 
@@ -159,7 +160,7 @@ module _ (count : ℕ) (first last : List ℕ) (ok : Accepted count first last) 
         owner-is = λ s k q e p i. (owner-place s k q e p i, λ c. on-owner s e p i k q (place-on s e p i k q c));
         owner-gap = λ s k q hs hk hq. (
           λ h e p i c. let z : ownedBy e p i ≡ noOwner = sym (on-owner s e p i k q (place-on s e p i k q c)) ∙ h in let o : _≡_ {A = ℕ} 0 1 = cc in omega arith,
-          λ none. owner-in s k q (bit-there s k q hs hk hq) ∙ ap ownedAs (owner-none m g s k q hs (λ e p i f c. none e p i (covered-place s e p i k q f c))),
+          λ none. owner-in s k q (bit-there s k q hs hk hq) ∙ ap ownedAs (owner-none m g s k q (named-has-bytes s hs) (λ e p i f c. none e p i (covered-place s e p i k q f c))),
         );
         place-owned = λ s e p i k q h. on-owner s e p i k q (place-on s e p i k q (lowest s e p i k q h));
         placed = λ s e p i h. place-field s e p i (holds-field m s e p i h);

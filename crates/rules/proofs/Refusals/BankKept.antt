@@ -14,7 +14,7 @@ use Rattle.rules.specs.Refuse.{Verdict, passes, refuses, decide, exists,
 use Rattle.rules.specs.Bank.{Bank, putField, withNumber, bankPlan, applyBank, bankDoes, bankCall, freshBank, freshened, freshCall}
 use Rattle.rules.specs.Demands.{Keeps}
 use Rattle.rules.proofs.Basics.Tests.{and₂}
-use Rattle.rules.proofs.Bank.Places.{set-inside, app-inside}
+use Rattle.rules.proofs.Bank.Places.{set-inside, app-inside, named-has-bytes}
 use Rattle.rules.proofs.Place.AcceptedMap.{GoodMap}
 use Rattle.rules.proofs.Load.Walks.{map-good}
 use Rattle.rules.proofs.Place.Fields.{in-bank}
@@ -54,7 +54,7 @@ module _ (m : Map) (g : GoodMap m) where
   does-keeps (read s e p i) b j = kept-self b
   does-keeps (byteWrite s k v) b j =
       let (h₁, h₂) = and₂ (isSet s) (ltb k (lengthOf m s)) (j .there) in
-      kept-set b (setStart s + k) _ (set-inside s k (ltb→lt s 3 h₁) (omega (arith, ltb→lt k (lengthOf m s) h₂, g .lengths s)))
+      kept-set b (setStart s + k) _ (set-inside s k (named-has-bytes s (ltb→lt s 3 h₁)) (omega (arith, ltb→lt k (lengthOf m s) h₂, g .lengths s)))
   does-keeps (byteRead s k) b j = kept-self b
   does-keeps (publish e p i v) b j = kept-put b 2 e p i _ (publish-field m j)
   does-keeps (apply s lanes) b j = kept-apply s lanes b

@@ -9,7 +9,7 @@ place-of-requires : tie.Need-place-of-requires
 place-of-requires c κs = search needs
 
 byte-of-requires : tie.Need-byte-of-requires
-byte-of-requires c κs = let s = c .before .before in (s .pre .isSet, rw (c .place-of .ensures .0) (s .pre .inside))
+byte-of-requires c κs = let s = c .before .before in (s .pre .bytes, rw (c .place-of .ensures .0) (s .pre .inside))
 
 shared-slice-read-get : tie.Need-shared-slice-read-get
 shared-slice-read-get c = omega (arith, c .before .byte-of .ensures .1, c .before .before .before .before .pre .size)

@@ -9,7 +9,7 @@ place-of-requires : tie.Need-place-of-requires
 place-of-requires c κs = search needs
 
 byte-of-requires : tie.Need-byte-of-requires
-byte-of-requires c κs = let s = c .before .before in (s .pre .0 .isSet, rw (c .place-of .ensures .0) (s .pre .0 .inside))
+byte-of-requires c κs = let s = c .before .before in (s .pre .0 .bytes, rw (c .place-of .ensures .0) (s .pre .0 .inside))
 
 slice-read-merged : tie.Need-slice-read-merged
 slice-read-merged c = omega (arith, c .before .byte-of .ensures .1, c .before .before .before .before .pre .0 .size)

@@ -3,7 +3,7 @@ use mathlib.Core.Path.{_≡_}
 use Prim.Native.Nat.{_+_, _-_, _*_, _≤_, _<_}
 use native.Mathlib.Omega.{arith}
 use borrow.Author.Needs.{needs}
-use Rattle.rules.proofs.Bank.Places.{size-is, set-start-last}
+use Rattle.rules.proofs.Bank.Places.{size-is, set-start-last, named-has-bytes}
 use Rattle.control_set.specs.Plan.{byteCopied, bytesCopied}
 use Rattle.control_set.proofs.Copies.{set-mid, Upto, upto-none, byte-turn}
 use Rattle.control_set.proofs.copy.copy_bytes.Statement.{statement}
@@ -28,7 +28,7 @@ add-byte-of c = search needs
 byte-of-requires : tie.Need-byte-of-requires Inv-loop μ-loop
 byte-of-requires c κs =
     let s = c .before .before .before .before .before in
-    (omega (arith, s .pre .0), omega (arith, s .pre .1 .inside))
+    (named-has-bytes _ (omega (arith, s .pre .0)), omega (arith, s .pre .1 .inside))
 
 slice-read-byte : tie.Need-slice-read-byte Inv-loop μ-loop
 slice-read-byte c =

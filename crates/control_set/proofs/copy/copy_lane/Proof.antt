@@ -1,5 +1,6 @@
 -- `copy_lane` meets its contract.
 use mathlib.Core.Path.{sym, _∙_}
+use Rattle.rules.proofs.Bank.Places.{named-has-bytes}
 use native.Mathlib.Omega.{arith}
 use denote.Ref.{now}
 use Rattle.control_set.specs.Plan.{copyLane}
@@ -15,7 +16,7 @@ copy-field-requires : tie.Need-copy-field-requires
 copy-field-requires c κs =
     let s = c .before .before .before .before .before in
     let (a, q) = s .pre in
-    spread-spot (now (s .args .bank)) (a .0 .size) (a .1) _ (omega (arith, a .0 .staged)) _ _ (q .0) (q .1) (q .2)
+    spread-spot (now (s .args .bank)) (a .0 .size) (a .1) _ (named-has-bytes _ (omega (arith, a .0 .staged))) _ _ (q .0) (q .1) (q .2)
 
 same-length : tie.Need-same-length
 same-length c = search needs

@@ -1,5 +1,6 @@
 -- `is_bad` meets its contract.
 use mathlib.Core.Path.{refl, sym, _∙_}
+use Rattle.rules.proofs.Bank.Places.{named-has-bytes}
 use native.Mathlib.Omega.{arith}
 use denote.Ref.{now}
 use Rattle.control_set.specs.Field.{Spot}
@@ -12,7 +13,7 @@ use Rattle.control_set.proofs.plan.is_bad.Tie as tie
 spot : (c : tie.Start) → Spot (now (c .args .bank)) (c .args .chosen .set) (c .args .f .offset) (c .args .part) (c .args .f .width) (c .args .lane)
 spot c =
     let (a, q) = c .pre in
-    spread-spot (now (c .args .bank)) (a .0 .size) (a .1) _ (omega (arith, a .0 .staged)) _ _ (q .0) (q .1) (q .2)
+    spread-spot (now (c .args .bank)) (a .0 .size) (a .1) _ (named-has-bytes _ (omega (arith, a .0 .staged))) _ _ (q .0) (q .1) (q .2)
 
 copies-requires : tie.Need-copies-requires
 copies-requires c κs = search needs
