@@ -29,6 +29,7 @@ use Rattle.control_set.specs.Gate.{Opened}
 use Rattle.control_set.specs.Plan.{Asked, fieldsOf, fieldsBy, acceptsBits, copiesBy, lacksBy, badAt, badIn, badAmong, copyLane, copyPart, copyEntry, copyAmong, Least}
 use Rattle.control_set.proofs.Spots.{bits-at-lt, bits-field, with-field, number-field}
 use Rattle.descriptor.specs.EntryLines.{listOf}
+use Rattle.descriptor.specs.Find.{namedOf}
 use Rattle.control_set.proofs.Outcomes.{opened-accepted, count-top, call-10, call-11}
 use Rattle.control_set.proofs.Leasts.{least-ext, lowest-refuses, lowest-passes}
 use Rattle.control_set.proofs.Copies.{loop-ext}
@@ -85,19 +86,19 @@ module _ (count : ℕ) (first last : List ℕ) (s lanes : ℕ) (b : Bank) where
         → p < partsOf x
         → badAt (asked count) (fieldsOf (getD (rwEntries count first) e nothing)) b p i
         ≡ (bankCopies (mapOf count first last) b s lanes e i && not (accepts (entry (mapOf count first last) e) (numberIn (mapOf count first last) b s e p i)))
-    unfolding badAt
+    unfolding badAt namedOf
     bad-is p i hp = ap₂ (λ (c v : Bool). c && not v) (copies-is i) (fine-is p i hp)
 
     any-bad-is : (i : ℕ)
         → badIn (asked count) (fieldsOf (getD (rwEntries count first) e nothing)) b i
         ≡ any (partsOf (entry (mapOf count first last) e)) (λ p. bankCopies (mapOf count first last) b s lanes e i && not (accepts (entry (mapOf count first last) e) (numberIn (mapOf count first last) b s e p i)))
-    unfolding badIn
+    unfolding badIn namedOf
     any-bad-is i =
         any-ext (partsOf x) _ _ (λ p hp. bad-is p i hp)
         ∙ ap (λ (y : Entry). any (partsOf y) λ p. bankCopies m b s lanes e i && not (accepts (entry m e) (numberIn m b s e p i))) is
 
     lane-is : (p i : ℕ) (b′ : Bank) → copyLane (asked count) (fieldsOf (getD (rwEntries count first) e nothing)) b p i b′ ≡ copyField (mapOf count first last) s lanes b e p i b′
-    unfolding copyLane copyField
+    unfolding copyLane copyField namedOf
     lane-is p i b′ =
         ap₂ (λ (c : Bool) (y : Bank). cond c y b′) (copies-is i)
         (with-field m b′ 2 e p i x is (widthOf x) refl (bitsAt b s (x .offset) p (widthOf x) i) ∙ ap (putField m b′ 2 e p i) (bits-field m b s e p i x is (widthOf x) refl))
@@ -105,7 +106,7 @@ module _ (count : ℕ) (first last : List ℕ) (s lanes : ℕ) (b : Bank) where
     entry-is : (b′ : Bank)
         → copyEntry (asked count) (fieldsOf (getD (rwEntries count first) e nothing)) b b′
         ≡ loop (partsOf (entry (mapOf count first last) e)) (λ p. loop 8 (λ j. copyField (mapOf count first last) s lanes b e p (suc j))) b′
-    unfolding copyEntry copyPart
+    unfolding copyEntry copyPart namedOf
     entry-is b′ =
         loop-ext (partsOf x) _ (λ p. loop 8 (λ j. copyField m s lanes b e p (suc j))) b′
         (λ p y hp. loop-ext 8 _ (λ j. copyField m s lanes b e p (suc j)) y λ j z hj. lane-is p (suc j) z)

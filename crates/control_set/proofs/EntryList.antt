@@ -22,7 +22,7 @@ use Rattle.rules.proofs.Load.Walks.{map-good, load-accepted}
 use Rattle.rules.proofs.Load.EntryHeads.{in-rw}
 use Rattle.rules.proofs.Load.Checks.{high-one, high-two}
 use Rattle.rules.proofs.Basics.Tests.{by-test}
-use Rattle.descriptor.specs.Find.{lowIn, highIn, hasCodes, listedOf}
+use Rattle.descriptor.specs.Find.{lowIn, highIn, hasCodes, listedOf, namedOf}
 use Rattle.descriptor.specs.EntryLines.{below, above, flag, lineOf, lines, listOf}
 use Rattle.descriptor.proofs.TableRows.{parts-few, width-narrow}
 use Rattle.descriptor.proofs.Accepts.{coded-values}
@@ -46,11 +46,13 @@ flag-small true = omega arith
 flag-small false = omega arith
 
 pub line-fields : (e : Entry) → fieldsBy (lineOf e) ≡ fieldsOf e
+unfolding namedOf
 line-fields e =
     rw (flagged (signedOf e), flagged (hasCodes (rowOf (e .id) .codesAt)), low-below (e .id) .0, high-above (e .id) .0) refl
 
 -- numbers of 16 bits
 line-narrow : (e : Entry) → e .mask < 0x10000 → e .offset ≤ 256 → Narrow (lineOf e)
+unfolding namedOf
 line-narrow e m o =
     record { cell = λ k. go k }
   where
@@ -68,6 +70,7 @@ line-narrow e m o =
 
 -- codes are low
 pub entry-codes : (e : Entry) → LowCodes (fieldsOf e)
+unfolding namedOf
 entry-codes e h = let c = coded-values (e .id) h in (c .low-is, c .high-is)
 
 -- an application mask of bytes
@@ -107,6 +110,7 @@ module _ (count : ℕ) (first last : List ℕ) (ok : Accepted count first last) 
   entry-narrow = line-narrow e mask-is (omega (arith, ends))
 
   entry-spread : Spread (fieldsOf (getD (rwEntries count first) n nothing))
+  unfolding namedOf
   entry-spread = record { whole = good .width; inside = omega (arith, good .room, ends) }
 
 -- the list that apply makes of them

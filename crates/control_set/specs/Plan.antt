@@ -16,7 +16,8 @@ use Rattle.rules.specs.Place.{partsOf, widthOf, signedOf, Width}
 use Rattle.rules.specs.Layout.{bankSize, setStart}
 use Rattle.rules.specs.Refuse.{chooses}
 use Rattle.rules.specs.Bank.{Bank, appSelIn, loop}
-use Rattle.descriptor.specs.Find.{lowIn, highIn, hasCodes, listedOf, acceptedIn}
+use Rattle.descriptor.specs.declared.Named.{Named}
+use Rattle.descriptor.specs.Find.{namedOf, acceptedIn}
 use Rattle.control_set.specs.declared.plan.Chosen.{Chosen}
 use Rattle.control_set.specs.declared.plan.Fields.{Fields}
 use Rattle.control_set.specs.Field.{bitsAt, withBits}
@@ -36,19 +37,20 @@ pub record Spread (f : Fields) : Type 0 where
 abbrev pub LowCodes : Fields → Type 0
 LowCodes f = CodesLow (f .low) (f .high) (f .coded)
 
--- what apply needs of an entry
+-- what apply needs of an entry: its mask, and what a call needs of it
 abbrev pub fieldsOf : Entry → Fields
 fieldsOf e =
+    let f : Named = namedOf false e in
     record {
       mask = e .mask;
-      offset = e .offset;
-      parts = partsOf e;
-      width = widthOf e;
-      signed = signedOf e;
-      low = lowIn (rowOf (e .id) .values);
-      high = highIn (rowOf (e .id) .values);
-      coded = hasCodes (rowOf (e .id) .codesAt);
-      codes = listedOf e;
+      offset = f .offset;
+      parts = f .parts;
+      width = f .width;
+      signed = f .signed;
+      low = f .low;
+      high = f .high;
+      coded = f .coded;
+      codes = f .codes;
     }
 
 -- the same by its line, column by column

@@ -1,6 +1,6 @@
 -- An entry's line, and a lent list of the RW entries' lines.
 use mathlib.Core.Path.{_≡_}
-use mathlib.Core.Bool.{Bool, cond}
+use mathlib.Core.Bool.{Bool, false, cond}
 use mathlib.Core.List.{List, [], _∷_}
 use Prim.Native.Nat.{ℕ, zero, suc, _<_}
 use lib.IntN.{ℤ, pos, negsuc, _-ℤ_}
@@ -8,12 +8,11 @@ use lib.ListN.{length, getD, set}
 use Rattle.rules.specs.declared.Entry.{Entry}
 use Rattle.rules.specs.declared.Loaded.{Loaded}
 use Rattle.rules.specs.declared.Loaded.the-variants.{Accepted as accepted, Refused as rejected}
-use Rattle.rules.specs.Parameter.{rowOf}
 use Rattle.rules.specs.Descriptor.{entryAt}
-use Rattle.rules.specs.Place.{nothing, partsOf, widthOf, signedOf}
+use Rattle.rules.specs.Place.{nothing}
 use Rattle.descriptor.specs.declared.search.Mark.{Mark}
 use Rattle.descriptor.specs.declared.Named.{Named}
-use Rattle.descriptor.specs.Find.{lowIn, highIn, hasCodes, listedOf, namedOf}
+use Rattle.descriptor.specs.Find.{namedOf}
 
 -- how far a number lies below 0, and above it
 abbrev pub below : ℤ → ℕ
@@ -28,23 +27,13 @@ abbrev pub flag : Bool → ℕ
 flag b = cond b 1 0
 
 -- application mask; offset, parts and bits a lane; signed; accepted from so far below 0 up to a number; coded, codes
-abbrev pub lineOf : Entry → List ℕ
-lineOf e =
-    e .mask
-    ∷ e .offset
-    ∷ partsOf e
-    ∷ widthOf e
-    ∷ flag (signedOf e)
-    ∷ below (lowIn (rowOf (e .id) .values))
-    ∷ above (highIn (rowOf (e .id) .values))
-    ∷ flag (hasCodes (rowOf (e .id) .codesAt))
-    ∷ listedOf e
-    ∷ []
-
--- the same of what a call needs of an entry
 abbrev pub lineBy : ℕ → Named → List ℕ
 lineBy mask f =
     mask ∷ f .offset ∷ f .parts ∷ f .width ∷ flag (f .signed) ∷ below (f .low) ∷ above (f .high) ∷ flag (f .coded) ∷ f .codes ∷ []
+
+-- the line of an entry of the RW string: what a call needs of it
+abbrev pub lineOf : Entry → List ℕ
+lineOf e = lineBy (e .mask) (namedOf false e)
 
 -- numbers that a line has room for, from `far` below 0 up to `top`
 pub record Short (f : Named) : Type 0 where
