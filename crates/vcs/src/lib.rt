@@ -508,7 +508,7 @@ pub extern "C" fn vcs_weight(
     flat_answer(weight(count, rw, ro, bank, entry, lane))
 }
 
-// The reader's step at a position: the next entry's start and length, or the end (1), and the position after it.
+// What a reader takes at a position: the next entry's start and length, or the end (1), and the position after it.
 #[no_mangle]
 pub extern "C" fn vcs_take(count: usize, string: &[u8], position: usize) -> FlatTaken
     ensures { λ r. ⌜ r ≡ flatTaken (takeOf count (now (string .entry)) position) (movedTo (takeOf count (now (string .entry)) position) position) ⌝ }
