@@ -4,7 +4,7 @@ pub mod Spots
 pub mod Signs
 pub mod Values
 pub mod Outcomes
-pub mod EntryCalls
+pub mod FieldCalls
 pub mod Stores
 pub mod ByteCalls
 pub mod Leasts

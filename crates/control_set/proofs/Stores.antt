@@ -19,15 +19,15 @@ use Rattle.control_set.specs.Field.{withBits}
 use Rattle.control_set.specs.Store.{Storable, storeOf}
 use Rattle.control_set.proofs.Outcomes.{call-12, call-done}
 use Rattle.control_set.specs.Gate.{Entered}
-use Rattle.control_set.proofs.EntryCalls.{ranged, entered-opened, spot-there, stored-there, value-tested, value-bits}
+use Rattle.control_set.proofs.FieldCalls.{ranged, entered-opened, spot-there, stored-there, value-tested, value-bits}
 
-module _ (count : ℕ) (first last : List ℕ) (b : Bank) {e : ℕ} {f : Named} (t : Entered count first last (length b) e f) where
-  pub storable : {s p i : ℕ} → Field (mapOf count first last) s e p i → (v : ℤ) → Storable b s f p i v
+module _ (count : ℕ) (first last : List ℕ) (b : Bank) {e p i : ℕ} {f : Named} (t : Entered count first last (length b) e p i f) where
+  pub storable : {s : ℕ} → Field (mapOf count first last) s e p i → (v : ℤ) → Storable b s f p i v
   storable x v =
       record { ranged = ranged count first last b t; spot = spot-there count first last b t x; bits = value-bits count first last b t x v }
 
   pub call-stores :
-      (c : Call) (s p i : ℕ) (v : ℤ)
+      (c : Call) (s : ℕ) (v : ℤ)
       → Field (mapOf count first last) s e p i
       → exists (mapOf count first last) c ≡ true
       → misdirected (mapOf count first last) c ≡ false
@@ -36,10 +36,10 @@ module _ (count : ℕ) (first last : List ℕ) (b : Bank) {e : ℕ} {f : Named} 
       → bankDoes (mapOf count first last) c b ≡ (saysYes, withNumber (mapOf count first last) b s e p i v)
       → bankCall count first last c b ≡ (cond (acceptedBy f v) saysYes (refused (plain 12)), storeOf b s f p i v)
   unfolding storeOf
-  call-stores c s p i v w h l u q d = go (acceptedBy f v) refl
+  call-stores c s v w h l u q d = go (acceptedBy f v) refl
     where
       tested : (x : Bool) → acceptedBy f v ≡ x → unaccepted (mapOf count first last) c ≡ not x
-      tested x y = u ∙ value-tested count first last b t w v ∙ ap not y
+      tested x y = u ∙ value-tested count first last b t v ∙ ap not y
 
       go : (x : Bool) → acceptedBy f v ≡ x
           → bankCall count first last c b
@@ -47,5 +47,5 @@ module _ (count : ℕ) (first last : List ℕ) (b : Bank) {e : ℕ} {f : Named} 
       go true y =
           call-done count first last c b (entered-opened count first last b t) h l (tested true y) q
           ∙ d
-          ∙ ap (λ (z : Bank). (saysYes, z)) (sym (stored-there count first last b t s p i v))
+          ∙ ap (λ (z : Bank). (saysYes, z)) (sym (stored-there count first last b t s v))
       go false y = call-12 count first last c b (entered-opened count first last b t) h l (tested false y)

@@ -4,13 +4,12 @@ use mathlib.Core.Bool.{Bool, false, _&&_, cond}
 use mathlib.Core.List.{List}
 use Prim.Native.Nat.{ℕ, _%_, _≤_, _<_}
 use lib.Dec.{ltb}
-use lib.ListN.{length}
 use Rattle.rules.specs.declared.Loaded.the-variants.{Accepted as accepted}
 use Rattle.rules.specs.declared.Answer.{Answer}
 use Rattle.rules.specs.declared.Answer.the-variants.{Yes as saysYes, Refused as refused}
 use Rattle.rules.specs.declared.Refusal.the-variants.{Plain as plain}
 use Rattle.rules.specs.Load.{loadOf, mapOf}
-use Rattle.rules.specs.Place.{isSet, lengthOf}
+use Rattle.rules.specs.Place.{isSet, hasField, lengthOf}
 use Rattle.rules.specs.Layout.{bankSize}
 use Rattle.rules.specs.Refuse.{Verdict, refuses, firstOf, bankOrder}
 use Rattle.rules.specs.Bank.{fieldBits}
@@ -33,18 +32,18 @@ abbrev pub Gated : ℕ → List ℕ → List ℕ → ℕ → Gate → Type 0
 Gated count rw ro size (opens n k c t) = Opened count rw ro size n k c t
 Gated count rw ro size (shuts r) = (rest : List Verdict) → bankOrder count rw ro size rest ≡ refuses r
 
--- past 9, 8 and 1 to 7 with an entry of the map
-pub record Entered (count : ℕ) (rw ro : List ℕ) (size e : ℕ) (f : Named) : Type 0 where
+-- past 9, 8 and 1 to 7 with a field of the map
+pub record Entered (count : ℕ) (rw ro : List ℕ) (size e p i : ℕ) (f : Named) : Type 0 where
   pub size-is : bankSize ≤ size
-  pub named : InMap count rw ro e f
+  pub named : InMap count rw ro e p i f
 
--- refused, where what follows gives 10 to an entry that doesn't exist
-abbrev pub EntryGated : ℕ → List ℕ → List ℕ → ℕ → ℕ → Found → Type 0
-EntryGated count rw ro size e (isIn f) = Entered count rw ro size e f
-EntryGated count rw ro size e (notFound r) =
-    (rest : List Verdict) → (length (mapOf count rw ro .entries) ≤ e → firstOf rest ≡ refuses (plain 10)) → bankOrder count rw ro size rest ≡ refuses r
+-- refused, where what follows gives 10 to a field that doesn't exist
+abbrev pub FieldGated : ℕ → List ℕ → List ℕ → ℕ → ℕ → ℕ → ℕ → Found → Type 0
+FieldGated count rw ro size e p i (isIn f) = Entered count rw ro size e p i f
+FieldGated count rw ro size e p i (notFound r) =
+    (rest : List Verdict) → (hasField (mapOf count rw ro) e p i ≡ false → firstOf rest ≡ refuses (plain 10)) → bankOrder count rw ro size rest ≡ refuses r
 
--- the answer of a call that names an entry, where none is found
+-- the answer of a call that names a field, where none is found
 abbrev pub refusedOf : Found → Answer
 refusedOf (isIn f) = saysYes
 refusedOf (notFound r) = refused r

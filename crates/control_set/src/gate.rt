@@ -1,5 +1,5 @@
 // What every call on a bank checks first: 9, 8, then 1 to 7.
-ghost use Rattle.control_set.specs.Gate.{Gated, EntryGated, ByteGated};
+ghost use Rattle.control_set.specs.Gate.{Gated, FieldGated, ByteGated};
 use descriptor::Covered;
 use descriptor::Found;
 use descriptor::cover;
@@ -47,11 +47,19 @@ pub fn admit(count: usize, rw: &[u8], ro: &[u8], size: usize) -> Gate
     }
 }
 
-// The same for a call that names an entry, with what it needs of the entry; 10 for an entry that doesn't exist.
-pub fn admit_entry(count: usize, rw: &[u8], ro: &[u8], size: usize, entry: usize) -> Found
-    ensures { λ r. ⌜ EntryGated count (now (rw .entry)) (now (ro .entry)) size entry r ⌝ }
+// The same for a call that names a field, with what it needs of the entry; 10 for an entry, part or lane that doesn't exist.
+pub fn admit_field(
+    count: usize,
+    rw: &[u8],
+    ro: &[u8],
+    size: usize,
+    entry: usize,
+    part: usize,
+    lane: usize,
+) -> Found
+    ensures { λ r. ⌜ FieldGated count (now (rw .entry)) (now (ro .entry)) size entry part lane r ⌝ }
 {
-    find(count, rw, ro, size < BANK_SIZE, entry)
+    find(count, rw, ro, size < BANK_SIZE, entry, part, lane)
 }
 
 // Whether a byte of a set has fields, for a call that names it; or the refusal.

@@ -28,7 +28,7 @@ use crate::gate::Byte;
 use crate::gate::Gate;
 use crate::gate::admit;
 use crate::gate::admit_byte;
-use crate::gate::admit_entry;
+use crate::gate::admit_field;
 use crate::number::bits_of;
 use crate::number::number_of;
 use crate::number::weight_of;
@@ -114,7 +114,7 @@ pub fn select(
     Answer::Yes
 }
 
-// A call that names an entry, where none is found.
+// A call that names a field, where none is found.
 fn refused(found: Found) -> Answer
     ensures { λ r. ⌜ r ≡ refusedOf found ⌝ }
 {
@@ -153,32 +153,11 @@ pub fn write(
     ensures answer { λ r. ⌜ r ≡ bankCall count (now (rw .entry)) (now (ro .entry)) (Call.Write set entry part lane value) (now (bank .entry)) .0 ⌝ }
     ensures after { λ _. ⌜ now (bank .exit) ≡ bankCall count (now (rw .entry)) (now (ro .entry)) (Call.Write set entry part lane value) (now (bank .entry)) .1 ⌝ }
 {
-    if !limits(count, rw, ro) {
-        return Answer::Refused(Refusal::Plain(9));
-    }
-    write_within(count, rw, ro, bank, set, entry, part, lane, value)
-}
-
-// The same without that look at the lengths (see `descriptor::cover`).
-fn write_within(
-    count: usize,
-    rw: &[u8],
-    ro: &[u8],
-    bank: &mut [u8],
-    set: usize,
-    entry: usize,
-    part: usize,
-    lane: usize,
-    value: i64,
-) -> Answer
-    ensures answer { λ r. ⌜ r ≡ bankCall count (now (rw .entry)) (now (ro .entry)) (Call.Write set entry part lane value) (now (bank .entry)) .0 ⌝ }
-    ensures after { λ _. ⌜ now (bank .exit) ≡ bankCall count (now (rw .entry)) (now (ro .entry)) (Call.Write set entry part lane value) (now (bank .entry)) .1 ⌝ }
-{
-    let found = admit_entry(count, rw, ro, bank.len(), entry);
+    let found = admit_field(count, rw, ro, bank.len(), entry, part, lane);
     let Found::In(f) = found else {
         return refused(found);
     };
-    if !((set < 3) & ((part < f.parts) & ((1 <= lane) & (lane <= 8)))) {
+    if !(set < 3) {
         return Answer::Refused(Refusal::Plain(10));
     }
     if (set == 2) | f.ro {
@@ -203,11 +182,11 @@ pub fn read(
 ) -> Answer
     ensures answer { λ r. ⌜ r ≡ bankCall count (now (rw .entry)) (now (ro .entry)) (Call.Read set entry part lane) (now (bank .entry)) .0 ⌝ }
 {
-    let found = admit_entry(count, rw, ro, bank.len(), entry);
+    let found = admit_field(count, rw, ro, bank.len(), entry, part, lane);
     let Found::In(f) = found else {
         return refused(found);
     };
-    if !((set < 3) & ((part < f.parts) & ((1 <= lane) & (lane <= 8)))) {
+    if !(set < 3) {
         return Answer::Refused(Refusal::Plain(10));
     }
     if (set < 2) & f.ro {
@@ -290,13 +269,10 @@ pub fn publish(
     ensures answer { λ r. ⌜ r ≡ bankCall count (now (rw .entry)) (now (ro .entry)) (Call.Publish entry part lane value) (now (bank .entry)) .0 ⌝ }
     ensures after { λ _. ⌜ now (bank .exit) ≡ bankCall count (now (rw .entry)) (now (ro .entry)) (Call.Publish entry part lane value) (now (bank .entry)) .1 ⌝ }
 {
-    let found = admit_entry(count, rw, ro, bank.len(), entry);
+    let found = admit_field(count, rw, ro, bank.len(), entry, part, lane);
     let Found::In(f) = found else {
         return refused(found);
     };
-    if !((part < f.parts) & ((1 <= lane) & (lane <= 8))) {
-        return Answer::Refused(Refusal::Plain(10));
-    }
     if !f.ro {
         return Answer::Refused(Refusal::Plain(11));
     }
@@ -385,11 +361,11 @@ pub fn perform(count: usize, rw: &[u8], ro: &[u8], bank: &mut [u8], call: Call) 
 pub fn weight(count: usize, rw: &[u8], ro: &[u8], bank: &[u8], entry: usize, lane: usize) -> Answer
     ensures { λ r. ⌜ r ≡ weightCall count (now (rw .entry)) (now (ro .entry)) (now (bank .entry)) entry lane ⌝ }
 {
-    let found = admit_entry(count, rw, ro, bank.len(), entry);
+    let found = admit_field(count, rw, ro, bank.len(), entry, 0, lane);
     let Found::In(f) = found else {
         return refused(found);
     };
-    if !((f.id == 0x12) & ((1 <= lane) & (lane <= 8))) {
+    if !(f.id == 0x12) {
         return Answer::Refused(Refusal::Plain(10));
     }
     let bits = read_field(bank, 2, f.offset, 0, 8, lane);

@@ -1,19 +1,18 @@
--- What a call needs of the entry that it names, refused as a call that is told of its bank is.
+-- What a call needs of the field that it names, refused as a call that is told of its bank is.
 use mathlib.Core.Path.{_≡_}
 use mathlib.Core.Bool.{Bool, true, false, _&&_, _||_, not, cond}
 use mathlib.Core.List.{List, [], _∷_}
-use Prim.Native.Nat.{ℕ, _^_, _<_}
+use Prim.Native.Nat.{ℕ, _^_}
 use lib.Bits.{bitAnd}
 use lib.IntN.{ℤ, pos}
 use lib.Signed.{leZ}
-use lib.ListN.{length}
 use lib.Dec.{ltb}
 use Rattle.rules.specs.declared.Entry.{Entry}
 use Rattle.rules.specs.declared.Refusal.the-variants.{Plain as plain}
 use Rattle.rules.specs.Numbers.{sum}
 use Rattle.rules.specs.Parameter.{Position, absent, after, Range, rowOf}
 use Rattle.rules.specs.Load.{mapOf}
-use Rattle.rules.specs.Place.{entry, isRW, partsOf, widthOf, signedOf}
+use Rattle.rules.specs.Place.{entry, isRW, isLane, hasField, partsOf, widthOf, signedOf}
 use Rattle.rules.specs.Accept.{within, inMask}
 use Rattle.rules.specs.Refuse.{Verdict, passes, refuses, refuseIf, firstOf, check9, check1to7}
 use Rattle.rules.specs.Demands.{Accepted}
@@ -60,10 +59,10 @@ namedOf inRO e =
       step = e .step;
     }
 
--- an entry of the map of strings that load, and what a call needs of it
-pub record InMap (count : ℕ) (rw ro : List ℕ) (e : ℕ) (f : Named) : Type 0 where
+-- a field of the map of strings that load, and what a call needs of its entry
+pub record InMap (count : ℕ) (rw ro : List ℕ) (e p i : ℕ) (f : Named) : Type 0 where
   pub ok : Accepted count rw ro
-  pub there : e < length (mapOf count rw ro .entries)
+  pub has : hasField (mapOf count rw ro) e p i ≡ true
   pub is : namedOf (not (isRW (mapOf count rw ro) e)) (entry (mapOf count rw ro) e) ≡ f
 
 -- the values that its fields accept: from low to high and, where there is a code mask, those with a bit in the codes
@@ -81,8 +80,13 @@ found (refuses r) x = notFound r
 unfoldable pub toldOrder : ℕ → List ℕ → List ℕ → Bool → List Verdict → Verdict
 toldOrder count rw ro short rest = firstOf (check9 count rw ro ∷ refuseIf short (plain 8) ∷ check1to7 count rw ro ∷ rest)
 
-unfoldable pub foundOf : ℕ → List ℕ → List ℕ → Bool → ℕ → Found
-foundOf count rw ro short e =
+-- 10: an entry, part or lane that doesn't exist
+unfoldable pub foundOf : ℕ → List ℕ → List ℕ → Bool → ℕ → ℕ → ℕ → Found
+foundOf count rw ro short e p i =
     found
-    (toldOrder count rw ro short (refuseIf (not (ltb e (length (mapOf count rw ro .entries)))) (plain 10) ∷ []))
+    (toldOrder count rw ro short (refuseIf (not (hasField (mapOf count rw ro) e p i)) (plain 10) ∷ []))
     (isIn (namedOf (not (isRW (mapOf count rw ro) e)) (entry (mapOf count rw ro) e)))
+
+-- 10 of a part and a lane, for an entry that exists
+unfoldable pub heldIn : Named → ℕ → ℕ → Found
+heldIn f p i = cond (ltb p (f .parts) && isLane i) (isIn f) (notFound (plain 10))

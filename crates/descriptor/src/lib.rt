@@ -9,7 +9,7 @@ ghost use Rattle.rules.specs.Load.{sized, loadOf, rwEntries};
 ghost use Rattle.rules.specs.MapProgram.{mapOutput};
 ghost use Rattle.rules.specs.Beside.{entryAnswer, entryBytes};
 ghost use Rattle.descriptor.specs.Locate.{locatedOf};
-ghost use Rattle.descriptor.specs.Find.{foundOf};
+ghost use Rattle.descriptor.specs.Find.{heldIn, foundOf};
 ghost use Rattle.descriptor.specs.EntryLines.{listOf};
 ghost use Rattle.descriptor.specs.Cover.{coverOf};
 
@@ -187,10 +187,28 @@ pub enum Found {
     Refused(Refusal),
 }
 
-// The entry of a number, for a call that is told whether its bank is too short: 9, 8, then 1 to 7, and 10 for an entry that
-// doesn't exist.
-pub fn find(count: usize, rw: &[u8], ro: &[u8], short: bool, entry: usize) -> Found
-    ensures { λ r. ⌜ r ≡ foundOf count (now (rw .entry)) (now (ro .entry)) short entry ⌝ }
+// 10: a part that the entry hasn't, or no lane.
+fn held(f: Named, part: usize, lane: usize) -> Found
+    ensures { λ r. ⌜ r ≡ heldIn f part lane ⌝ }
+{
+    if (part < f.parts) & ((1 <= lane) & (lane <= 8)) {
+        return Found::In(f);
+    }
+    Found::Refused(Refusal::Plain(10))
+}
+
+// The field of an entry, part and lane, for a call that is told whether its bank is too short: 9, 8, then 1 to 7, and 10 for an
+// entry, part or lane that doesn't exist.
+pub fn find(
+    count: usize,
+    rw: &[u8],
+    ro: &[u8],
+    short: bool,
+    entry: usize,
+    part: usize,
+    lane: usize,
+) -> Found
+    ensures { λ r. ⌜ r ≡ foundOf count (now (rw .entry)) (now (ro .entry)) short entry part lane ⌝ }
 {
     if short {
         if !limits(count, rw, ro) {
@@ -224,7 +242,7 @@ pub fn find(count: usize, rw: &[u8], ro: &[u8], short: bool, entry: usize) -> Fo
                     start,
                     offset,
                 );
-                return Found::In(f);
+                return held(f, part, lane);
             }
             let f = named_at(
                 &classes,
@@ -237,7 +255,7 @@ pub fn find(count: usize, rw: &[u8], ro: &[u8], short: bool, entry: usize) -> Fo
                 start,
                 offset,
             );
-            Found::In(f)
+            held(f, part, lane)
         }
     }
 }

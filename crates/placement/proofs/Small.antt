@@ -1,14 +1,9 @@
 -- The products of the code fit: parts, W and lanes are below 16.
-use mathlib.Core.Path.{_≡_}
-use mathlib.Core.Bool.{true, _&&_}
 use Prim.Native.Nat.{ℕ, zero, suc, _+_, _*_, _/_, _≤_, _<_}
 use native.Mathlib.Nat.{mul-zero, mul-le-mul, div-le-self}
 use native.Mathlib.Omega.{arith}
-use lib.Dec.{ltb, leb, ltb→lt, leb→le}
 use mir.Val.{Fits}
 use mir.Syntax.{w64}
-use Rattle.rules.specs.Place.{isSet, isLane}
-use Rattle.rules.proofs.Basics.Tests.{and₄, from-true}
 
 product : (a b : ℕ) → a < 16 → b < 16 → a * b ≤ 225
 product a b h k = let l : a ≤ 15 = omega arith in let u : b ≤ 15 = omega arith in mul-le-mul l u
@@ -33,9 +28,3 @@ pub record There (p i : ℕ) : Type 0 where
   pub part : p < 16
   pub low : 1 ≤ i
   pub top : i ≤ 8
-
-pub there : (s p i parts : ℕ) → parts < 16 → (isSet s && (ltb p parts && isLane i)) ≡ true → There p i
-there s p i parts hp h =
-    let (a, b, c, d) = and₄ (isSet s) (ltb p parts) (leb 1 i) (leb i 8) (from-true h) in
-    let l : p < parts = ltb→lt _ _ b in
-    record { part = omega arith; low = leb→le _ _ c; top = leb→le _ _ d }

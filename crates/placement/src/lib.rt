@@ -24,11 +24,11 @@ pub fn place(
     ensures { λ r. ⌜ r ≡ placeOf count (now (rw .entry)) (now (ro .entry)) set entry part lane ⌝ }
 {
     // Place takes no bank: none is too short.
-    let found = find(count, rw, ro, false, entry);
+    let found = find(count, rw, ro, false, entry, part, lane);
     match found {
         Found::Refused(r) => Placed::Refused(r),
         Found::In(f) => {
-            if !((set < 3) & ((part < f.parts) & ((1 <= lane) & (lane <= 8)))) {
+            if !(set < 3) {
                 return Placed::Refused(Refusal::Plain(10));
             }
             if (set < 2) & f.ro {

@@ -14,42 +14,42 @@ use Rattle.rules.specs.Bank.{bankPlan, bankDoes}
 use Rattle.rules.specs.Place.{Field}
 use Rattle.rules.proofs.Refusals.CallOrder.{meets}
 use Rattle.control_set.proofs.Outcomes.{call-10, call-11, call-done}
-use Rattle.control_set.specs.Gate.{Entered, EntryGated}
-use Rattle.control_set.proofs.EntryCalls.{entered-opened, call-unfound, no-read, read-tested, read-directed, read-there, spot-there, number-there}
+use Rattle.control_set.specs.Gate.{Entered, FieldGated}
+use Rattle.control_set.proofs.FieldCalls.{entered-opened, call-unfound, no-read, read-tested, read-directed, read-there, spot-there, number-there}
 use Rattle.control_set.proofs.read.Statement.{statement}
 use Rattle.control_set.proofs.read.Tie as tie
 
 -- what the search gives, and the entry that is found, in what the pattern binds
-gated : (c : tie.After-admit-entry) → let g = c .before .before .before .before .args in EntryGated (g .count) (now (g .rw)) (now (g .ro)) (length (now (g .bank))) (g .entry) (c .admit-entry .result)
-gated c = c .admit-entry .ensures
+gated : (c : tie.After-admit-field) → let g = c .before .before .before .before .args in FieldGated (g .count) (now (g .rw)) (now (g .ro)) (length (now (g .bank))) (g .entry) (g .part) (g .lane) (c .admit-field .result)
+gated c = c .admit-field .ensures
 
 entered : (c : tie.After-known-told) →
     let g = c .before .before .before .before .before .before .before .args in
-    Entered (g .count) (now (g .rw)) (now (g .ro)) (length (now (g .bank))) (g .entry) (c .before .found .given .0 .0)
+    Entered (g .count) (now (g .rw)) (now (g .ro)) (length (now (g .bank))) (g .entry) (g .part) (g .lane) (c .before .found .given .0 .0)
 entered c = rw (c .before .found .given .1) at (gated (c .before .before .before))
 
 -- what is passed: 10 and 11
-there : (c : tie.Else1) → let g = c .before .before .before .before .before .before .before .before .before .args in exists (mapOf (g .count) (now (g .rw)) (now (g .ro))) (Call.Read (g .set) (g .entry) (g .part) (g .lane)) ≡ true
+there : (c : tie.Else1) → let g = c .before .before .before .before .before .before .before .before .args in exists (mapOf (g .count) (now (g .rw)) (now (g .ro))) (Call.Read (g .set) (g .entry) (g .part) (g .lane)) ≡ true
 there c =
-    let k = c .before .before in
+    let k = c .before in
     let g = k .before .before .before .before .before .before .before .args in
-    read-tested (g .count) (now (g .rw)) (now (g .ro)) (now (g .bank)) (entered k) (g .set) (g .part) (g .lane) ∙ not-false _ (c .if1 .left)
+    read-tested (g .count) (now (g .rw)) (now (g .ro)) (now (g .bank)) (entered k) (g .set) ∙ not-false _ (c .if1 .left)
 
-may : (c : tie.Else2) → let g = c .before .before .before .before .before .before .before .before .before .before .before .args in misdirected (mapOf (g .count) (now (g .rw)) (now (g .ro))) (Call.Read (g .set) (g .entry) (g .part) (g .lane)) ≡ false
+may : (c : tie.Else2) → let g = c .before .before .before .before .before .before .before .before .before .before .args in misdirected (mapOf (g .count) (now (g .rw)) (now (g .ro))) (Call.Read (g .set) (g .entry) (g .part) (g .lane)) ≡ false
 may c =
-    let k = c .before .before .before .before in
+    let k = c .before .before .before in
     let g = k .before .before .before .before .before .before .before .args in
-    read-directed (g .count) (now (g .rw)) (now (g .ro)) (entered k) (g .set) (g .part) (g .lane) ∙ c .if2 .left
+    read-directed (g .count) (now (g .rw)) (now (g .ro)) (now (g .bank)) (entered k) (g .set) ∙ c .if2 .left
 
 -- the field
-field : (c : tie.Else2) → let g = c .before .before .before .before .before .before .before .before .before .before .before .args in Field (mapOf (g .count) (now (g .rw)) (now (g .ro))) (g .set) (g .entry) (g .part) (g .lane)
+field : (c : tie.Else2) → let g = c .before .before .before .before .before .before .before .before .before .before .args in Field (mapOf (g .count) (now (g .rw)) (now (g .ro))) (g .set) (g .entry) (g .part) (g .lane)
 field c =
-    let k = c .before .before .before .before in
+    let k = c .before .before .before in
     let g = k .before .before .before .before .before .before .before .args in
-    read-there (g .count) (now (g .rw)) (now (g .ro)) (now (g .bank)) (entered k) (g .set) (g .part) (g .lane) (not-false _ (c .before .before .if1 .left)) (c .if2 .left)
+    read-there (g .count) (now (g .rw)) (now (g .ro)) (now (g .bank)) (entered k) (g .set) (not-false _ (c .before .before .if1 .left)) (c .if2 .left)
 
-admit-entry-requires : tie.Need-admit-entry-requires
-admit-entry-requires c κs = search needs
+admit-field-requires : tie.Need-admit-field-requires
+admit-field-requires c κs = search needs
 
 enum-known-found : tie.Need-enum-known-found
 enum-known-found c = search needs
@@ -64,25 +64,25 @@ returns : tie.Need-returns
 returns c =
     let k = c .before .before .before in
     let g = k .before .before .before .before .args in
-    meets (call-unfound (g .count) (now (g .rw)) (now (g .ro)) (now (g .bank)) (g .entry) (Call.Read (g .set) (g .entry) (g .part) (g .lane)) (λ l. no-read (g .count) (now (g .rw)) (now (g .ro)) (now (g .bank)) (g .entry) l (g .set) (g .part) (g .lane)) (c .before .enum-told .given .1) (gated k)) (c .refused .ensures) refl .0
+    meets (call-unfound (g .count) (now (g .rw)) (now (g .ro)) (now (g .bank)) (g .entry) (g .part) (g .lane) (Call.Read (g .set) (g .entry) (g .part) (g .lane)) (λ l. no-read (g .count) (now (g .rw)) (now (g .ro)) (now (g .bank)) (g .entry) (g .part) (g .lane) l (g .set)) (c .before .enum-told .given .1) (gated k)) (c .refused .ensures) refl .0
 
 returns-2 : tie.Need-returns-2
 returns-2 c =
-    let k = c .before .before in
+    let k = c .before in
     let g = k .before .before .before .before .before .before .before .args in
     let t = entered k in
-    meets (call-10 (g .count) (now (g .rw)) (now (g .ro)) (Call.Read (g .set) (g .entry) (g .part) (g .lane)) (now (g .bank)) (entered-opened (g .count) (now (g .rw)) (now (g .ro)) (now (g .bank)) t) (read-tested (g .count) (now (g .rw)) (now (g .ro)) (now (g .bank)) t (g .set) (g .part) (g .lane) ∙ not-true _ (c .if1 .taken))) refl refl .0
+    meets (call-10 (g .count) (now (g .rw)) (now (g .ro)) (Call.Read (g .set) (g .entry) (g .part) (g .lane)) (now (g .bank)) (entered-opened (g .count) (now (g .rw)) (now (g .ro)) (now (g .bank)) t) (read-tested (g .count) (now (g .rw)) (now (g .ro)) (now (g .bank)) t (g .set) ∙ not-true _ (c .if1 .taken))) refl refl .0
 
 returns-3 : tie.Need-returns-3
 returns-3 c =
-    let k = c .before .before .before .before in
+    let k = c .before .before .before in
     let g = k .before .before .before .before .before .before .before .args in
     let t = entered k in
-    meets (call-11 (g .count) (now (g .rw)) (now (g .ro)) (Call.Read (g .set) (g .entry) (g .part) (g .lane)) (now (g .bank)) (entered-opened (g .count) (now (g .rw)) (now (g .ro)) (now (g .bank)) t) (there (c .before .before)) (read-directed (g .count) (now (g .rw)) (now (g .ro)) t (g .set) (g .part) (g .lane) ∙ c .if2 .taken)) refl refl .0
+    meets (call-11 (g .count) (now (g .rw)) (now (g .ro)) (Call.Read (g .set) (g .entry) (g .part) (g .lane)) (now (g .bank)) (entered-opened (g .count) (now (g .rw)) (now (g .ro)) (now (g .bank)) t) (there (c .before .before)) (read-directed (g .count) (now (g .rw)) (now (g .ro)) (now (g .bank)) t (g .set) ∙ c .if2 .taken)) refl refl .0
 
 read-field-requires : tie.Need-read-field-requires
 read-field-requires c κs =
-    let k = c .before .before .before .before in
+    let k = c .before .before .before in
     let g = k .before .before .before .before .before .before .before .args in
     spot-there (g .count) (now (g .rw)) (now (g .ro)) (now (g .bank)) (entered k) (field c)
 
@@ -94,7 +94,7 @@ unfolding unaccepted bankPlan bankDoes
 returns-4 c =
     let f = c .before in
     let e = f .before in
-    let k = e .before .before .before .before in
+    let k = e .before .before .before in
     let g = k .before .before .before .before .before .before .before .args in
     let t = entered k in
     let x = rw (f .read-field .ensures) at (c .number-of .ensures) in
@@ -105,7 +105,7 @@ pub read-spec : {M : Type 1} → statement M
 read-spec =
     tie.close
     (tie.spec
-    admit-entry-requires
+    admit-field-requires
     enum-known-found
     enum-told
     refused-requires

@@ -15,18 +15,18 @@ use Rattle.control_set.specs.Values.{numberBy}
 use Rattle.control_set.proofs.Spots.{bits-at-lt}
 use Rattle.control_set.proofs.Signs.{number-bits}
 use Rattle.control_set.proofs.Values.{number-byte}
-use Rattle.control_set.specs.Gate.{Entered, EntryGated}
-use Rattle.control_set.proofs.EntryCalls.{weight-unfound, weight-10, weight-spot, weight-is}
+use Rattle.control_set.specs.Gate.{Entered, FieldGated}
+use Rattle.control_set.proofs.FieldCalls.{weight-unfound, weight-10, weight-spot, weight-is}
 use Rattle.control_set.proofs.weight.Statement.{statement}
 use Rattle.control_set.proofs.weight.Tie as tie
 
 -- what the search gives, and the entry that is found, in what the pattern binds
-gated : (c : tie.After-admit-entry) → let g = c .before .before .before .before .args in EntryGated (g .count) (now (g .rw)) (now (g .ro)) (length (now (g .bank))) (g .entry) (c .admit-entry .result)
-gated c = c .admit-entry .ensures
+gated : (c : tie.After-admit-field) → let g = c .before .before .before .before .args in FieldGated (g .count) (now (g .rw)) (now (g .ro)) (length (now (g .bank))) (g .entry) 0 (g .lane) (c .admit-field .result)
+gated c = c .admit-field .ensures
 
 entered : (c : tie.After-known-told) →
     let g = c .before .before .before .before .before .before .before .args in
-    Entered (g .count) (now (g .rw)) (now (g .ro)) (length (now (g .bank))) (g .entry) (c .before .found .given .0 .0)
+    Entered (g .count) (now (g .rw)) (now (g .ro)) (length (now (g .bank))) (g .entry) 0 (g .lane) (c .before .found .given .0 .0)
 entered c = rw (c .before .found .given .1) at (gated (c .before .before .before))
 
 -- the number of its bits, as the machine hands it on
@@ -36,8 +36,8 @@ numbered : (c : tie.After-number-of) →
     toZ w64 (ofZ w64 (c .number-of .result)) ≡ numberBy true (bitsAt (now (g .bank)) 2 (k .before .found .given .0 .0 .offset) 0 8 (g .lane))
 numbered c = toZ-ofZ (record { sfits = c .number-of .ok }) ∙ c .number-of .ensures ∙ ap (numberBy true) (c .before .read-field .ensures)
 
-admit-entry-requires : tie.Need-admit-entry-requires
-admit-entry-requires c κs = search needs
+admit-field-requires : tie.Need-admit-field-requires
+admit-field-requires c κs = search needs
 
 enum-known-found : tie.Need-enum-known-found
 enum-known-found c = search needs
@@ -88,7 +88,7 @@ pub weight-spec : {M : Type 1} → statement M
 weight-spec =
     tie.close
     (tie.spec
-    admit-entry-requires
+    admit-field-requires
     enum-known-found
     enum-told
     refused-requires

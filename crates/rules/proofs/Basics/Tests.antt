@@ -89,6 +89,10 @@ both-true false b h k = h
 pub from-true : {t : Bool} → t ≡ true → T t
 from-true e = rw e tt
 
+pub and-yes : (a : Bool) → (a && true) ≡ a
+and-yes true = refl
+and-yes false = refl
+
 pub and-no : (a : Bool) → (a && false) ≡ false
 and-no true = refl
 and-no false = refl

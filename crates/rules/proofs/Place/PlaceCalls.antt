@@ -7,11 +7,11 @@ use native.Mathlib.Omega.{arith}
 use lib.ListN.{length}
 use lib.Dec.{ltb}
 use borrow.Author.Tests.{ltb-true, ltb-false, lt-ltb, le-ltb}
-use Rattle.rules.specs.Words.{Refusal, plain, Loaded, accepted, rejected, read, placedAt, notPlaced, notOwned}
+use Rattle.rules.specs.Words.{Refusal, plain, rejected, read, placedAt, notPlaced, notOwned}
 use Rattle.rules.specs.Load.{Map, loadOf, mapOf}
-use Rattle.rules.specs.Place.{entry, partsOf, isSet, isStaged, isRW, isLane, heldBy, lengthOf, fieldByte, fieldBit, ownerOf}
-use Rattle.rules.specs.Refuse.{refuses, refuseIf, firstOf, exists, misdirected, unaccepted, judge}
-use Rattle.rules.specs.Beside.{placed, placeOf, ownedAs, isBit, ownerCall, entryVerdict}
+use Rattle.rules.specs.Place.{entry, isSet, isStaged, isRW, hasField, heldBy, lengthOf, fieldByte, fieldBit, ownerOf}
+use Rattle.rules.specs.Refuse.{Verdict, passes, refuses, refuseIf, firstOf, check9, check1to7, orderOf, exists, misdirected, unaccepted, judge}
+use Rattle.rules.specs.Beside.{placed, placeOf, ownedAs, isBit, ownerCall}
 use Rattle.rules.specs.Demands.{Accepted}
 use Rattle.rules.proofs.Basics.Tests.{and-no}
 use Rattle.rules.proofs.Place.AcceptedMap.{GoodMap}
@@ -26,46 +26,43 @@ module _ (count : ℕ) (first last : List ℕ) where
   -- place
 
   module _ (s e p i : ℕ) where
-    -- an entry call that is refused
-    pub place-refused : (r : Refusal) → entryVerdict count first last e ≡ refuses r → notPlaced r ≡ placeOf count first last s e p i
-    unfolding entryVerdict placeOf judge exists
-    place-refused r h = go (loadOf count first last) refl
+    -- a call on a field that is refused, before its set is looked at
+    pub place-refused :
+        (r : Refusal)
+        → orderOf count first last (refuseIf (not (hasField (mapOf count first last) e p i)) (plain 10) ∷ []) ≡ refuses r
+        → notPlaced r ≡ placeOf count first last s e p i
+    unfolding orderOf placeOf judge exists
+    place-refused r h = go (check9 count first last) (check1to7 count first last) (hasField m e p i) h
       where
-        out : (t : Bool) → ltb e (length (m .entries)) ≡ t → firstOf (refuseIf (not t) (plain 10) ∷ []) ≡ refuses r
-            → notPlaced r ≡ placed (firstOf (judge m (read s e p i))) (placedAt (fieldByte (entry m e) p i) (fieldBit (entry m e) i))
-        out true q x = let o : _≡_ {A = ℕ} 0 1 = cc in absurd (omega arith)
-        out false q x = let z : plain 10 ≡ r = cc in rw (q, and-no (isSet s), ← z) refl
+        go : (a b : Verdict) (t : Bool) → firstOf (a ∷ b ∷ refuseIf (not t) (plain 10) ∷ []) ≡ refuses r
+            → notPlaced r
+            ≡ placed (firstOf (a ∷ b ∷ refuseIf (not (isSet s && t)) (plain 10) ∷ refuseIf (misdirected m (read s e p i)) (plain 11) ∷ refuseIf (unaccepted m (read s e p i)) (plain 12) ∷ []))
+            (placedAt (fieldByte (entry m e) p i) (fieldBit (entry m e) i))
+        go (refuses x) b t q = let z : x ≡ r = cc in rw z refl
+        go passes (refuses x) t q = let z : x ≡ r = cc in rw z refl
+        go passes passes true q = let o : _≡_ {A = ℕ} 0 1 = cc in absurd (omega arith)
+        go passes passes false q = let z : plain 10 ≡ r = cc in rw (and-no (isSet s), z) refl
 
-        go : (x : Loaded) → loadOf count first last ≡ x → notPlaced r ≡ placeOf count first last s e p i
-        go (rejected r′) q =
-            let z : refuses r′ ≡ refuses r = sym (order-refused count first last r′ q _) ∙ h in
-            let y : r′ ≡ r = cc in
-            rw (order-refused count first last r′ q (judge m (read s e p i)), y) refl
-        go (accepted n k c t) q =
-            let ok : Accepted count first last = record { rwCount = n; roCount = k; staged = c; active = t; loads = q } in
-            rw (order-accepted count first last ok (judge m (read s e p i)))
-            (out (ltb e (length (m .entries))) refl (sym (order-accepted count first last ok _) ∙ h))
-
-    module _ (ok : Accepted count first last) (l : e < length (mapOf count first last .entries)) where
+    module _ (ok : Accepted count first last) (h : hasField (mapOf count first last) e p i ≡ true) where
       place-is : placeOf count first last s e p i ≡ placed (firstOf (judge m (read s e p i))) (placedAt (fieldByte (entry m e) p i) (fieldBit (entry m e) i))
       unfolding placeOf
       place-is = rw (order-accepted count first last ok (judge m (read s e p i))) refl
 
-      -- 10 of an entry that exists
-      pub place-10 : (isSet s && (ltb p (partsOf (entry (mapOf count first last) e)) && isLane i)) ≡ false → notPlaced (plain 10) ≡ placeOf count first last s e p i
+      -- 10 of a set
+      pub place-10 : isSet s ≡ false → notPlaced (plain 10) ≡ placeOf count first last s e p i
       unfolding judge exists
-      place-10 h = sym (place-is ∙ rw (lt-ltb e (length (m .entries)) l, h) refl)
+      place-10 l = sym (place-is ∙ rw l refl)
 
-      module _ (h : (isSet s && (ltb p (partsOf (entry (mapOf count first last) e)) && isLane i)) ≡ true) where
+      module _ (l : isSet s ≡ true) where
         pub place-11 : (isStaged s && not (isRW (mapOf count first last) e)) ≡ true → notPlaced (plain 11) ≡ placeOf count first last s e p i
         unfolding judge exists misdirected
-        place-11 t = sym (place-is ∙ rw (lt-ltb e (length (m .entries)) l, h, t) refl)
+        place-11 t = sym (place-is ∙ rw (l, h, t) refl)
 
         pub place-at :
             (isStaged s && not (isRW (mapOf count first last) e)) ≡ false
             → placedAt (fieldByte (entry (mapOf count first last) e) p i) (fieldBit (entry (mapOf count first last) e) i) ≡ placeOf count first last s e p i
         unfolding judge exists misdirected unaccepted
-        place-at t = sym (place-is ∙ rw (lt-ltb e (length (m .entries)) l, h, t) refl)
+        place-at t = sym (place-is ∙ rw (l, h, t) refl)
 
   -- owner
 
