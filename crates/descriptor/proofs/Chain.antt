@@ -3,20 +3,20 @@
 use mathlib.Core.Path.{_≡_, refl}
 use mathlib.Core.Bool.{Bool, true, false}
 use mathlib.Core.List.{List}
-use Prim.Native.Nat.{ℕ, _+_, _<_}
+use Prim.Native.Nat.{ℕ, _+_, _≤_, _<_}
 use native.Mathlib.Omega.{arith}
 use borrow.Author.Tests.{lt-ltb}
 use lib.Dec.{ltb}
-use lib.ListN.{length}
+use lib.ListN.{length, getD}
 use Rattle.rules.specs.declared.State.{State}
 use Rattle.rules.specs.declared.Decoded.{Decoded}
 use Rattle.rules.specs.Parameter.{rowOf, Side, RW, RO, both, Position, absent, after}
 use Rattle.rules.specs.Descriptor.{byteAt, stepOf, mediaSide, mayStand, refuse}
 use Rattle.descriptor.specs.declared.decode.Decoding.{Decoding}
 use Rattle.descriptor.specs.declared.decode.Decoding.the-variants.{Refused as stops}
-use Rattle.descriptor.specs.Rows.{cell}
+use Rattle.descriptor.specs.Rows.{rowAt, placeNumber, stepPlace}
 use Rattle.descriptor.specs.Decode.{decodingOf, stepBy, standsBy, Standing}
-use Rattle.descriptor.proofs.TableRows.{row, sideNumber, placeNumber, Row}
+use Rattle.descriptor.proofs.TableRows.{row, sideNumber}
 
 pub pass : (at : ℕ) (st : State) (n : ℕ) (d : Decoded) {b : Bool} {r : Decoding} → b ≡ false → r ≡ decodingOf at st d → r ≡ decodingOf at st (refuse b n d)
 unfolding refuse
@@ -40,34 +40,35 @@ unfolding stepOf stepBy
 step-by absent s at a = refl
 step-by (after n) s at a = let q : at + a + (4 + n) ≡ at + 4 + a + n = omega arith in rw (lt-ltb 0 (4 + n) (omega arith), q) refl
 
-module _ {table : List (List ℕ)} {class a : ℕ} {s : List ℕ} {at : ℕ} {st : State} (g : Standing table class a s at st) where
+module _ {l : List ℕ} {a : ℕ} {s : List ℕ} {at : ℕ} {st : State} (g : Standing l a s at st) where
   abbrev id : ℕ
   id = byteAt s at
 
-  is : Row id class
-  is = rw (g .class-is) (row id)
-
-  pub side-is : (ro : Bool) → standsBy (cell table class 0) ro ≡ mayStand (rowOf id .side) ro
-  side-is ro = rw (g .table-is, is .side) (stands (rowOf id .side) ro)
+  pub side-is : (ro : Bool) → standsBy (getD l 2 0) ro ≡ mayStand (rowOf id .side) ro
+  side-is ro = rw (g .row-is, row id .side) (stands (rowOf id .side) ro)
 
   -- MemoryLength, PropertyFlags and step are in the string
+  room : at + getD (rowAt id) 0 0 + a ≤ length s
+  room = rw (g .row-is) at (g .room)
+
   pub memory-in : at + 2 + a < length s
-  memory-in = omega (arith, is .room, g .room)
+  memory-in = omega (arith, row id .room, room)
 
-  pub flags-in : 0 < cell table class 3 → at + 3 + a < length s
-  flags-in l = omega (arith, is .flags-room (rw (g .table-is) at l), g .room)
+  pub flags-in : 0 < getD l 3 0 → at + 3 + a < length s
+  flags-in h = omega (arith, row id .flags-room (rw (g .row-is) at h), room)
 
-  pub step-in : 0 < cell table class 4 → at + a + cell table class 4 < length s
-  step-in l = rw (g .table-is) (omega (arith, is .step-room (rw (g .table-is) at l), g .room))
+  pub step-in : 0 < stepPlace id → at + a + stepPlace id < length s
+  step-in h = omega (arith, row id .step-room h, room)
 
-  pub media-is : (flags : ℕ) → mediaSide (ltb 0 (cell table class 3)) flags ≡ mediaSide (rowOf id .flags) flags
-  media-is flags = rw (g .table-is, is .flags) refl
+  pub media-is : (flags : ℕ) → mediaSide (ltb 0 (getD l 3 0)) flags ≡ mediaSide (rowOf id .flags) flags
+  media-is flags = rw (g .row-is, row id .flags) refl
 
-  pub needed-small : cell table class 1 < 256
-  needed-small = rw (g .table-is) (is .needed-small)
+  pub needed-small : getD l 1 0 < 256
+  needed-small = rw (g .row-is) (row id .needed-small)
 
-  pub needed-is : cell table class 1 ≡ rowOf id .needed
-  needed-is = rw (g .table-is) (is .needed)
+  pub needed-is : getD l 1 0 ≡ rowOf id .needed
+  needed-is = rw (g .row-is) (row id .needed)
 
-  pub step-is : stepBy (cell table class 4) s (at + a) ≡ stepOf (rowOf id .stepAt) s (at + 4 + a)
-  step-is = rw (g .table-is, is .step) (step-by (rowOf id .stepAt) s at a)
+  pub step-is : stepBy (stepPlace id) s (at + a) ≡ stepOf (rowOf id .stepAt) s (at + 4 + a)
+  unfolding stepPlace
+  step-is = step-by (rowOf id .stepAt) s at a

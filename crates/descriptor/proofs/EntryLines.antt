@@ -12,7 +12,7 @@ use lib.ListN.{length, getD, set, length-set}
 use lib.Seq.{getD-set-same, getD-set-other}
 use borrow.Author.Tests.{lt-ltb}
 use mir.Syntax.{w64}
-use mir.Val.{toZ, ofZ}
+use mir.Val.{toZ, ofZ, SFits}
 use mir.Facts.{toZ-ofZ}
 use Rattle.rules.specs.declared.Entry.{Entry}
 use Rattle.rules.specs.declared.Loaded.the-variants.{Accepted as accepted}
@@ -29,15 +29,17 @@ use Rattle.rules.proofs.Load.Fills.{Filled, rw-filled}
 use Rattle.rules.proofs.Load.EntryHeads.{strings-short}
 use Rattle.rules.proofs.Load.Walks.{load-accepted}
 use Rattle.descriptor.specs.declared.Named.{Named}
-use Rattle.descriptor.specs.Rows.{fields, classOf, cell}
 use Rattle.descriptor.specs.Find.{lowIn, highIn, codeMask, hasCodes, listedOf, namedOf}
 use Rattle.descriptor.specs.Marks.{markAfter, Passable}
 use Rattle.descriptor.specs.EntryLines.{below, above, lineOf, lineBy, Short, lineAt, lines, listOf}
-use Rattle.descriptor.proofs.TableRows.{line, parts-few, width-narrow}
+use Rattle.descriptor.proofs.TableRows.{small, parts-few, width-narrow}
 use Rattle.descriptor.proofs.Marks.{Marked, marked, accepts}
-use Rattle.descriptor.proofs.Wides.{below-fits}
 
 -- a number so far below 0
+below-fits : (n : ℕ) → n < 256 → SFits w64 (pos 0 -ℤ pos n)
+below-fits zero h = record { sfits = omega arith }
+below-fits (suc n) h = rw (lt-ltb 0 (suc n) (omega arith)) (record { sfits = omega arith })
+
 below-is : (n : ℕ) → below (pos 0 -ℤ pos n) ≡ n
 below-is zero = refl
 below-is (suc n) = rw (lt-ltb 0 (suc n) (omega arith)) (omega arith)
@@ -55,16 +57,10 @@ far-word n h = toZ-ofZ {w = w64} {z = pos n} (record { sfits = omega arith })
 
 -- the accepted numbers of an ID begin so far below 0, and end at a number that is not
 pub low-below : (id : ℕ) → (pos 0 -ℤ pos (below (lowIn (rowOf id .values))) ≡ lowIn (rowOf id .values)) × (below (lowIn (rowOf id .values)) < 256)
-low-below id = go (lowIn (rowOf id .values)) (cell fields (classOf id) 3) (line id .low) (line id .low-small)
-  where
-    go : (z : ℤ) (n : ℕ) → pos 0 -ℤ pos n ≡ z → n < 256 → (pos 0 -ℤ pos (below z) ≡ z) × (below z < 256)
-    go z n e h = rw (← e) (rw (below-is n) (refl, h))
+low-below id = (small id .low, small id .low-small)
 
 pub high-above : (id : ℕ) → (pos (above (highIn (rowOf id .values))) ≡ highIn (rowOf id .values)) × (above (highIn (rowOf id .values)) < 256)
-high-above id = go (highIn (rowOf id .values)) (cell fields (classOf id) 4) (line id .high) (line id .high-small)
-  where
-    go : (z : ℤ) (n : ℕ) → pos n ≡ z → n < 256 → (pos (above z) ≡ z) × (above z < 256)
-    go z n e h = rw (← e) (refl, h)
+high-above id = (small id .high, small id .high-small)
 
 -- n codes have bits below 2 ^ n
 codes-lt : (n : ℕ) (f : ℕ → Bool) → sum n (λ k. cond (f k) (2 ^ k) 0) < 2 ^ n
@@ -87,12 +83,12 @@ named-short inRO e h =
       offset = h;
       parts = omega (arith, parts-few e);
       width = omega (arith, width-narrow e);
-      far = cell fields (classOf (e .id)) 3;
-      far-is = sym (line (e .id) .low);
-      far-small = line (e .id) .low-small;
-      top = cell fields (classOf (e .id)) 4;
-      top-is = sym (line (e .id) .high);
-      top-small = line (e .id) .high-small;
+      far = below (lowIn (rowOf (e .id) .values));
+      far-is = sym (small (e .id) .low);
+      far-small = small (e .id) .low-small;
+      top = above (highIn (rowOf (e .id) .values));
+      top-is = sym (small (e .id) .high);
+      top-small = small (e .id) .high-small;
       codes = codes-small e;
     }
 

@@ -1,31 +1,28 @@
 -- The rows of the code are those of document 01's table, at every ID: one test, computed for each ID that the table names and for the others.
-use mathlib.Core.Path.{_≡_, refl, sym, subst}
-use mathlib.Core.Bool.{Bool, true, false, _&&_, _||_, not, cond, Bool·beq}
-use Prim.Native.Nat.{ℕ, _+_, _≤_, _<_}
+-- And the bounds of what the table says.
+use mathlib.Core.Path.{_≡_, refl, sym}
+use mathlib.Core.Bool.{Bool, true, false, _&&_, _||_, not, Bool·beq}
+use mathlib.Core.List.{List}
+use Prim.Native.Nat.{ℕ, _≤_, _<_}
 use lib.IntN.{ℤ, pos, negsuc, _-ℤ_}
 use lib.Dec.{T, eqb, eqb→eq, ltb, ltb→lt, lt→ltb, leb, leb→le}
+use borrow.Author.Tests.{ne-eqb}
 use lib.ListN.{getD, List·getD-eq-default}
 use Rattle.rules.specs.declared.Entry.{Entry}
-use Rattle.rules.specs.Numbers.{sum}
-use Rattle.rules.specs.Parameter.{Row as TableRow, rowOf, rows as tableRows, space, Side, RW, RO, both, Position, absent, after}
+use Rattle.rules.specs.Parameter.{Row as TableRow, rowOf, rows as tableRows, space, Side, RW, RO, both}
 use Rattle.rules.specs.Place.{partsOf, widthOf}
-use Rattle.rules.specs.Accept.{within}
-use Rattle.rules.proofs.Basics.Tests.{and₂, and₄}
+use Rattle.rules.proofs.Basics.Tests.{and₂, and₃, and₄, is-false, or-right}
 use Rattle.rules.proofs.Table.Rows.{looked-up}
 use Rattle.rules.proofs.Basics.Ids.{every-id}
-use Rattle.descriptor.specs.Rows.{classes, rows, fields, listed, classOf, cell}
-use Rattle.descriptor.specs.Find.{lowIn, highIn, codeMask, hasCodes}
+use Rattle.descriptor.specs.Rows.{classes, classOf, rowAt, placeNumber, stepPlace, numberFields, fieldsOf}
+use Rattle.descriptor.specs.Find.{lowIn, highIn, hasCodes}
+use Rattle.descriptor.specs.EntryLines.{below, above}
 
--- what each column says, in terms of the table
+-- what the column of sides says, in terms of the table
 abbrev pub sideNumber : Side → ℕ
 sideNumber RW = 1
 sideNumber RO = 2
 sideNumber both = 3
-
--- an extra's place in an entry (+ A): PropertyFlags stand at 3
-abbrev pub placeNumber : Position → ℕ
-placeNumber absent = 0
-placeNumber (after n) = 4 + n
 
 pub same-test : (a b : Bool) → T (Bool·beq a b) → a ≡ b
 same-test true true h = refl
@@ -45,55 +42,56 @@ pub only-then : (a b : Bool) → T (only a b) → T a → T b
 only-then true b h _ = h
 only-then false b h t = absurd t
 
+-- a cell of the row of an ID
+abbrev pub cell : ℕ → ℕ → ℕ
+cell id column = getD (rowAt id) column 0
+
 -- what the checks read says what the table says of an ID
-pub record Row (id class : ℕ) : Type 0 where
-  pub side : cell rows class 0 ≡ sideNumber (rowOf id .side)
-  pub needed : cell rows class 1 ≡ rowOf id .needed
-  pub least : cell rows class 2 ≡ rowOf id .least
-  pub flags : ltb 0 (cell rows class 3) ≡ rowOf id .flags
-  pub step : cell rows class 4 ≡ placeNumber (rowOf id .stepAt)
-  pub needed-small : cell rows class 1 < 256
-  pub least-small : cell rows class 2 < 256
+pub record Row (id : ℕ) : Type 0 where
+  pub least : cell id 0 ≡ rowOf id .least
+  pub needed : cell id 1 ≡ rowOf id .needed
+  pub side : cell id 2 ≡ sideNumber (rowOf id .side)
+  pub flags : ltb 0 (cell id 3) ≡ rowOf id .flags
+  pub least-small : cell id 0 < 256
+  pub needed-small : cell id 1 < 256
   -- MemoryLength, PropertyFlags and step are within the least Length
-  pub room : 3 ≤ cell rows class 2
-  pub flags-room : 0 < cell rows class 3 → 4 ≤ cell rows class 2
-  pub step-room : 0 < cell rows class 4 → cell rows class 4 < cell rows class 2
+  pub room : 3 ≤ cell id 0
+  pub flags-room : 0 < cell id 3 → 4 ≤ cell id 0
+  pub step-room : 0 < stepPlace id → stepPlace id < cell id 0
 
-abbrev rowTest : ℕ → ℕ → Bool
-rowTest id class =
-    eqb (cell rows class 0) (sideNumber (rowOf id .side))
-    && (eqb (cell rows class 1) (rowOf id .needed)
-    && (eqb (cell rows class 2) (rowOf id .least)
-    && (Bool·beq (ltb 0 (cell rows class 3)) (rowOf id .flags)
-    && (eqb (cell rows class 4) (placeNumber (rowOf id .stepAt))
-    && (leb 3 (cell rows class 2)
-    && (only (ltb 0 (cell rows class 3)) (leb 4 (cell rows class 2))
-    && (only (ltb 0 (cell rows class 4)) (ltb (cell rows class 4) (cell rows class 2))
-    && (ltb (cell rows class 1) 256 && ltb (cell rows class 2) 256))))))))
+abbrev rowTest : ℕ → TableRow → ℕ → List ℕ → Bool
+rowTest id r step l =
+    eqb (getD l 0 0) (r .least)
+    && (eqb (getD l 1 0) (r .needed)
+    && (eqb (getD l 2 0) (sideNumber (r .side))
+    && (Bool·beq (ltb 0 (getD l 3 0)) (r .flags)
+    && (ltb (getD l 0 0) 256
+    && (ltb (getD l 1 0) 256
+    && (leb 3 (getD l 0 0)
+    && (only (ltb 0 (getD l 3 0)) (leb 4 (getD l 0 0))
+    && only (ltb 0 step) (ltb step (getD l 0 0)))))))))
 
-row-tested : (id : ℕ) → T (rowTest id (classOf id))
-unfolding rowOf classOf
+row-tested : (id : ℕ) → T (rowTest id (rowOf id) (stepPlace id) (rowAt id))
+unfolding rowOf classOf stepPlace
 row-tested =
-    every-id (λ id. rowTest id (classOf id)) tt
+    every-id (λ id. rowTest id (rowOf id) (stepPlace id) (rowAt id)) tt
     λ id l. rw (List·getD-eq-default classes 0 {n = id} l, List·getD-eq-default tableRows (space both) {n = id} l) tt
 
-pub row : (id : ℕ) → Row id (classOf id)
+pub row : (id : ℕ) → Row id
 row id =
-    let c : ℕ = classOf id in
-    let (t₁, t₂, t₃, more) = and₄ (eqb (cell rows c 0) (sideNumber (rowOf id .side))) (eqb (cell rows c 1) (rowOf id .needed)) (eqb (cell rows c 2) (rowOf id .least)) _ (row-tested id) in
-    let (t₄, t₅, t₆, rest) = and₄ (Bool·beq (ltb 0 (cell rows c 3)) (rowOf id .flags)) (eqb (cell rows c 4) (placeNumber (rowOf id .stepAt))) (leb 3 (cell rows c 2)) _ more in
-    let (t₇, t₈, t₉, t₁₀) = and₄ (only (ltb 0 (cell rows c 3)) (leb 4 (cell rows c 2))) (only (ltb 0 (cell rows c 4)) (ltb (cell rows c 4) (cell rows c 2))) (ltb (cell rows c 1) 256) (ltb (cell rows c 2) 256) rest in
+    let (t₁, t₂, t₃, more) = and₄ (eqb (cell id 0) (rowOf id .least)) (eqb (cell id 1) (rowOf id .needed)) (eqb (cell id 2) (sideNumber (rowOf id .side))) _ (row-tested id) in
+    let (t₄, t₅, t₆, rest) = and₄ (Bool·beq (ltb 0 (cell id 3)) (rowOf id .flags)) (ltb (cell id 0) 256) (ltb (cell id 1) 256) _ more in
+    let (t₇, t₈, t₉) = and₃ (leb 3 (cell id 0)) (only (ltb 0 (cell id 3)) (leb 4 (cell id 0))) (only (ltb 0 (stepPlace id)) (ltb (stepPlace id) (cell id 0))) rest in
     record {
-      side = eqb→eq _ _ t₁;
+      least = eqb→eq _ _ t₁;
       needed = eqb→eq _ _ t₂;
-      least = eqb→eq _ _ t₃;
+      side = eqb→eq _ _ t₃;
       flags = same-test _ _ t₄;
-      step = eqb→eq _ _ t₅;
-      needed-small = ltb→lt _ _ t₉;
-      least-small = ltb→lt _ _ t₁₀;
-      room = leb→le _ _ t₆;
-      flags-room = λ l. leb→le _ _ (only-then (ltb 0 (cell rows c 3)) _ t₇ (lt→ltb _ _ l));
-      step-room = λ l. ltb→lt _ _ (only-then (ltb 0 (cell rows c 4)) _ t₈ (lt→ltb _ _ l));
+      least-small = ltb→lt _ _ t₅;
+      needed-small = ltb→lt _ _ t₆;
+      room = leb→le _ _ t₇;
+      flags-room = λ l. leb→le _ _ (only-then (ltb 0 (cell id 3)) _ t₈ (lt→ltb _ _ l));
+      step-room = λ l. ltb→lt _ _ (only-then (ltb 0 (stepPlace id)) _ t₉ (lt→ltb _ _ l));
     }
 
 -- equal numbers
@@ -109,67 +107,122 @@ eqZ→eq (pos a) (negsuc b) h = absurd h
 eqZ→eq (negsuc a) (pos b) h = absurd h
 eqZ→eq (negsuc a) (negsuc b) h = rw (eqb→eq a b h)
 
--- what fields are
-pub record Line (id class : ℕ) : Type 0 where
-  pub parts : cell fields class 0 ≡ rowOf id .parts
-  pub width : cell fields class 1 ≡ rowOf id .width
-  pub signed : eqb (cell fields class 2) 1 ≡ rowOf id .signed
-  pub low : pos 0 -ℤ pos (cell fields class 3) ≡ lowIn (rowOf id .values)
-  pub high : pos (cell fields class 4) ≡ highIn (rowOf id .values)
-  pub codes : cell fields class 5 ≡ placeNumber (rowOf id .codesAt)
-  pub listed-is : T (hasCodes (rowOf id .codesAt)) → getD listed class 0 ≡ codeMask (rowOf id .values)
-  pub few : cell fields class 0 < 16
-  pub narrow : cell fields class 1 < 16
-  pub low-small : cell fields class 3 < 256
-  pub high-small : cell fields class 4 < 256
+-- the numbers of an ID's fields are small
+pub record Small (id : ℕ) : Type 0 where
+  pub few : rowOf id .parts < 16
+  pub narrow : rowOf id .width < 16
+  pub low : pos 0 -ℤ pos (below (lowIn (rowOf id .values))) ≡ lowIn (rowOf id .values)
+  pub low-small : below (lowIn (rowOf id .values)) < 256
+  pub high : pos (above (highIn (rowOf id .values))) ≡ highIn (rowOf id .values)
+  pub high-small : above (highIn (rowOf id .values)) < 256
+  pub mask-place : placeNumber (rowOf id .codesAt) < 256
+  pub step-place : placeNumber (rowOf id .stepAt) < 256
 
-abbrev lineTest : TableRow → ℕ → Bool
-lineTest r class =
-    eqb (cell fields class 0) (r .parts)
-    && (eqb (cell fields class 1) (r .width)
-    && (Bool·beq (eqb (cell fields class 2) 1) (r .signed)
-    && (eqZ (pos 0 -ℤ pos (cell fields class 3)) (lowIn (r .values))
-    && (eqZ (pos (cell fields class 4)) (highIn (r .values))
-    && (eqb (cell fields class 5) (placeNumber (r .codesAt))
-    && (only (hasCodes (r .codesAt)) (eqb (getD listed class 0) (codeMask (r .values)))
-    && (ltb (cell fields class 0) 16
-    && (ltb (cell fields class 1) 16 && (ltb (cell fields class 3) 256 && ltb (cell fields class 4) 256)))))))))
+abbrev smallTest : TableRow → Bool
+smallTest r =
+    ltb (r .parts) 16
+    && (ltb (r .width) 16
+    && (eqZ (pos 0 -ℤ pos (below (lowIn (r .values)))) (lowIn (r .values))
+    && (ltb (below (lowIn (r .values))) 256
+    && (eqZ (pos (above (highIn (r .values)))) (highIn (r .values))
+    && (ltb (above (highIn (r .values))) 256 && (ltb (placeNumber (r .codesAt)) 256 && ltb (placeNumber (r .stepAt)) 256))))))
 
-line-tested : (id : ℕ) → T (lineTest (rowOf id) (classOf id))
-unfolding rowOf classOf codeMask within sum
-line-tested =
-    every-id (λ id. lineTest (rowOf id) (classOf id)) tt
-    λ id l.
-    let q : classOf id ≡ 0 = List·getD-eq-default classes 0 {n = id} l in
-    let p : rowOf id ≡ space both = List·getD-eq-default tableRows (space both) {n = id} l in
-    subst (λ (c : ℕ). T (lineTest (rowOf id) c)) (sym q) (subst (λ (r : TableRow). T (lineTest r 0)) (sym p) tt)
+small-tested : (id : ℕ) → T (smallTest (rowOf id))
+unfolding rowOf
+small-tested = looked-up smallTest tableRows (space both) tt tt
 
-pub line : (id : ℕ) → Line id (classOf id)
-line id =
-    let c : ℕ = classOf id in
-    let (t₁, t₂, t₃, more) = and₄ (eqb (cell fields c 0) (rowOf id .parts)) (eqb (cell fields c 1) (rowOf id .width)) (Bool·beq (eqb (cell fields c 2) 1) (rowOf id .signed)) _ (line-tested id) in
-    let (t₄, t₅, t₆, rest) = and₄ (eqZ (pos 0 -ℤ pos (cell fields c 3)) (lowIn (rowOf id .values))) (eqZ (pos (cell fields c 4)) (highIn (rowOf id .values))) (eqb (cell fields c 5) (placeNumber (rowOf id .codesAt))) _ more in
-    let (t₇, t₈, t₉, last) = and₄ (only (hasCodes (rowOf id .codesAt)) (eqb (getD listed c 0) (codeMask (rowOf id .values)))) (ltb (cell fields c 0) 16) (ltb (cell fields c 1) 16) _ rest in
-    let (t₁₀, t₁₁) = and₂ (ltb (cell fields c 3) 256) (ltb (cell fields c 4) 256) last in
+pub small : (id : ℕ) → Small id
+small id =
+    let r : TableRow = rowOf id in
+    let (t₁, t₂, t₃, more) = and₄ (ltb (r .parts) 16) (ltb (r .width) 16) (eqZ (pos 0 -ℤ pos (below (lowIn (r .values)))) (lowIn (r .values))) _ (small-tested id) in
+    let (t₄, t₅, t₆, rest) = and₄ (ltb (below (lowIn (r .values))) 256) (eqZ (pos (above (highIn (r .values)))) (highIn (r .values))) (ltb (above (highIn (r .values))) 256) _ more in
+    let (t₇, t₈) = and₂ (ltb (placeNumber (r .codesAt)) 256) (ltb (placeNumber (r .stepAt)) 256) rest in
     record {
-      parts = eqb→eq _ _ t₁;
-      width = eqb→eq _ _ t₂;
-      signed = same-test _ _ t₃;
-      low = eqZ→eq _ _ t₄;
+      few = ltb→lt _ _ t₁;
+      narrow = ltb→lt _ _ t₂;
+      low = eqZ→eq _ _ t₃;
+      low-small = ltb→lt _ _ t₄;
       high = eqZ→eq _ _ t₅;
-      codes = eqb→eq _ _ t₆;
-      listed-is = λ h. eqb→eq _ _ (only-then (hasCodes (rowOf id .codesAt)) _ t₇ h);
-      few = ltb→lt _ _ t₈;
-      narrow = ltb→lt _ _ t₉;
-      low-small = ltb→lt _ _ t₁₀;
-      high-small = ltb→lt _ _ t₁₁;
+      high-small = ltb→lt _ _ t₆;
+      mask-place = ltb→lt _ _ t₇;
+      step-place = ltb→lt _ _ t₈;
     }
+
+-- an ID other than 12h has no step
+step-tested : (id : ℕ) → T (only (not (eqb id 0x12)) (eqb (stepPlace id) 0))
+unfolding rowOf stepPlace
+step-tested =
+    every-id (λ id. only (not (eqb id 0x12)) (eqb (stepPlace id) 0)) tt
+    λ id l. rw (List·getD-eq-default tableRows (space both) {n = id} l) (or-right (not (not (eqb id 0x12))) true tt)
+
+pub no-step : (id : ℕ) → (id ≡ 0x12 → ⊥) → 0 ≡ stepPlace id
+no-step id h = sym (eqb→eq _ _ (only-then (not (eqb id 0x12)) _ (step-tested id) (rw (ne-eqb id 0x12 h) tt)))
+
+-- an ID that no arm of `fields_of` names has no fields
+abbrev unnamed : ℕ → Bool
+unnamed id =
+    not (eqb id 0x02)
+    && (not (eqb id 0x03)
+    && (not (eqb id 0x04)
+    && (not (eqb id 0x05)
+    && (not (eqb id 0x06)
+    && (not (eqb id 0x07)
+    && (not (eqb id 0x08)
+    && (not (eqb id 0x0F)
+    && (not (eqb id 0x10)
+    && (not (eqb id 0x11)
+    && not (eqb id 0x12))))))))))
+
+abbrev empty : TableRow → Bool
+empty r =
+    eqb (r .parts) 0
+    && (eqb (r .width) 0
+    && (not (r .signed)
+    && (eqZ (lowIn (r .values)) (pos 0)
+    && (eqZ (highIn (r .values)) (pos 0) && (eqb (placeNumber (r .codesAt)) 0 && not (hasCodes (r .codesAt)))))))
+
+empty-tested : (id : ℕ) → T (only (unnamed id) (empty (rowOf id)))
+unfolding rowOf
+empty-tested =
+    every-id (λ id. only (unnamed id) (empty (rowOf id))) tt
+    λ id l. rw (List·getD-eq-default tableRows (space both) {n = id} l) (or-right (not (unnamed id)) true tt)
+
+pub no-fields :
+    (id : ℕ)
+    → (id ≡ 0x02 → ⊥)
+    → (id ≡ 0x03 → ⊥)
+    → (id ≡ 0x04 → ⊥)
+    → (id ≡ 0x05 → ⊥)
+    → (id ≡ 0x06 → ⊥)
+    → (id ≡ 0x07 → ⊥)
+    → (id ≡ 0x08 → ⊥)
+    → (id ≡ 0x0F → ⊥)
+    → (id ≡ 0x10 → ⊥)
+    → (id ≡ 0x11 → ⊥)
+    → (id ≡ 0x12 → ⊥)
+    → numberFields 0 0 false (pos 0) (pos 0) ≡ fieldsOf id
+unfolding fieldsOf
+no-fields id h2 h3 h4 h5 h6 h7 h8 h15 h16 h17 h18 =
+    let r : TableRow = rowOf id in
+    let t = only-then (unnamed id) _ (empty-tested id) (rw (ne-eqb id 0x02 h2, ne-eqb id 0x03 h3, ne-eqb id 0x04 h4, ne-eqb id 0x05 h5, ne-eqb id 0x06 h6, ne-eqb id 0x07 h7, ne-eqb id 0x08 h8, ne-eqb id 0x0F h15, ne-eqb id 0x10 h16, ne-eqb id 0x11 h17, ne-eqb id 0x12 h18) tt) in
+    let (t₁, t₂, t₃, more) = and₄ (eqb (r .parts) 0) (eqb (r .width) 0) (not (r .signed)) _ t in
+    let (t₄, t₅, t₆, t₇) = and₄ (eqZ (lowIn (r .values)) (pos 0)) (eqZ (highIn (r .values)) (pos 0)) (eqb (placeNumber (r .codesAt)) 0) (not (hasCodes (r .codesAt))) more in
+    rw (
+      eqb→eq (r .parts) 0 t₁,
+      eqb→eq (r .width) 0 t₂,
+      is-false (r .signed) t₃,
+      eqZ→eq (lowIn (r .values)) (pos 0) t₄,
+      eqZ→eq (highIn (r .values)) (pos 0) t₅,
+      eqb→eq (placeNumber (r .codesAt)) 0 t₆,
+      is-false (hasCodes (r .codesAt)) t₇,
+    )
+    refl
 
 -- for callers
 pub parts-few : (e : Entry) → partsOf e < 16
 unfolding partsOf
-parts-few e = rw (← line (e .id) .parts) (line (e .id) .few)
+parts-few e = small (e .id) .few
 
 pub width-narrow : (e : Entry) → widthOf e < 16
 unfolding widthOf
-width-narrow e = rw (← line (e .id) .width) (line (e .id) .narrow)
+width-narrow e = small (e .id) .narrow

@@ -3,7 +3,7 @@ use mathlib.Core.Path.{_≡_}
 use mathlib.Core.Bool.{Bool, true, false, _&&_, not, cond}
 use mathlib.Core.List.{List}
 use Prim.Native.Nat.{ℕ, _+_, _/_, _%_, _≤_, _<_}
-use lib.ListN.{length}
+use lib.ListN.{length, getD}
 use lib.Dec.{ltb, leb, eqb}
 use Rattle.rules.specs.declared.State.{State}
 use Rattle.rules.specs.declared.Decoded.{Decoded}
@@ -12,7 +12,7 @@ use Rattle.rules.specs.Descriptor.{byteAt}
 use Rattle.rules.specs.Load.{next}
 use Rattle.descriptor.specs.declared.decode.Decoding.{Decoding}
 use Rattle.descriptor.specs.declared.decode.Decoding.the-variants.{Past as past, Refused as stops}
-use Rattle.descriptor.specs.Rows.{classes, rows, classOf, cell}
+use Rattle.descriptor.specs.Rows.{classes, rows, rowAt}
 
 -- what a walk makes of a decode
 abbrev pub decodingOf : ℕ → State → Decoded → Decoding
@@ -43,14 +43,12 @@ pub record Walking (table : List ℕ) (rowTable : List (List ℕ)) (a : ℕ) (s 
   pub number : st .number ≤ 1000
   pub sum : st .sum ≤ 256
 
--- the same past 1 and 2, with the class of the entry's ID
-pub record Standing (rowTable : List (List ℕ)) (class a : ℕ) (s : List ℕ) (at : ℕ) (st : State) : Type 0 where
-  pub table-is : rowTable ≡ rows
-  pub class-is : class ≡ classOf (byteAt s at)
-  pub class-top : class < 10
+-- the same past 1 and 2, with the row of the entry's ID
+pub record Standing (row : List ℕ) (a : ℕ) (s : List ℕ) (at : ℕ) (st : State) : Type 0 where
+  pub row-is : row ≡ rowAt (byteAt s at)
   pub mask-low : 1 ≤ a
   pub mask-top : a ≤ 2
-  pub room : at + cell rows class 2 + a ≤ length s
+  pub room : at + getD row 0 0 + a ≤ length s
   pub short : length s ≤ 120
   pub number : st .number ≤ 1000
   pub sum : st .sum ≤ 256

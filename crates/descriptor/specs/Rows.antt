@@ -1,56 +1,62 @@
--- The constant rows as lists, and their cells.
-use mathlib.Core.Path.{_≡_}
+-- The constant rows as lists, and what the fields of an ID are by document 01's table.
+use mathlib.Core.Bool.{Bool, false, cond}
 use mathlib.Core.List.{List, [], _∷_}
-use Prim.Native.Nat.{ℕ}
+use Prim.Native.Nat.{ℕ, _+_}
+use lib.IntN.{ℤ, pos}
 use lib.ListN.{getD}
+use Rattle.rules.specs.Parameter.{rowOf, Position, absent, after}
+use Rattle.descriptor.specs.declared.table.Fields.{Fields}
+use Rattle.descriptor.specs.Find.{lowIn, highIn, codeMask, hasCodes}
 
 abbrev pub classes : List ℕ
 classes = 0 ∷ 1 ∷ 2 ∷ 3 ∷ 4 ∷ 2 ∷ 2 ∷ 5 ∷ 6 ∷ 1 ∷ 1 ∷ 1 ∷ 1 ∷ 1 ∷ 1 ∷ 7 ∷ 7 ∷ 8 ∷ 9 ∷ []
 
--- what the checks read: side, bytes needed, least Length, PropertyFlags read, place of the step
+-- least Length, bytes needed, side, PropertyFlags read
 abbrev pub rows : List (List ℕ)
 rows =
-    (3 ∷ 0 ∷ 3 ∷ 0 ∷ 0 ∷ [])
-    ∷ (1 ∷ 0 ∷ 3 ∷ 0 ∷ 0 ∷ [])
-    ∷ (1 ∷ 1 ∷ 4 ∷ 1 ∷ 0 ∷ [])
-    ∷ (1 ∷ 2 ∷ 4 ∷ 1 ∷ 0 ∷ [])
-    ∷ (1 ∷ 4 ∷ 6 ∷ 1 ∷ 0 ∷ [])
-    ∷ (1 ∷ 8 ∷ 7 ∷ 1 ∷ 0 ∷ [])
-    ∷ (1 ∷ 4 ∷ 6 ∷ 1 ∷ 0 ∷ [])
-    ∷ (1 ∷ 8 ∷ 4 ∷ 1 ∷ 0 ∷ [])
-    ∷ (2 ∷ 16 ∷ 4 ∷ 1 ∷ 0 ∷ [])
-    ∷ (2 ∷ 8 ∷ 6 ∷ 1 ∷ 5 ∷ [])
+    (3 ∷ 0 ∷ 3 ∷ 0 ∷ [])
+    ∷ (3 ∷ 0 ∷ 1 ∷ 0 ∷ [])
+    ∷ (4 ∷ 1 ∷ 1 ∷ 1 ∷ [])
+    ∷ (4 ∷ 2 ∷ 1 ∷ 1 ∷ [])
+    ∷ (6 ∷ 4 ∷ 1 ∷ 1 ∷ [])
+    ∷ (7 ∷ 8 ∷ 1 ∷ 1 ∷ [])
+    ∷ (6 ∷ 4 ∷ 1 ∷ 1 ∷ [])
+    ∷ (4 ∷ 8 ∷ 1 ∷ 1 ∷ [])
+    ∷ (4 ∷ 16 ∷ 2 ∷ 1 ∷ [])
+    ∷ (6 ∷ 8 ∷ 2 ∷ 1 ∷ [])
     ∷ []
-
--- what fields are: parts, bits a lane, signed, accepted from so far below 0 up to a number, place of the code mask
-abbrev pub fields : List (List ℕ)
-fields =
-    (0 ∷ 0 ∷ 0 ∷ 0 ∷ 0 ∷ 0 ∷ [])
-    ∷ (0 ∷ 0 ∷ 0 ∷ 0 ∷ 0 ∷ 0 ∷ [])
-    ∷ (1 ∷ 1 ∷ 0 ∷ 0 ∷ 1 ∷ 0 ∷ [])
-    ∷ (1 ∷ 2 ∷ 0 ∷ 0 ∷ 2 ∷ 0 ∷ [])
-    ∷ (1 ∷ 4 ∷ 0 ∷ 0 ∷ 15 ∷ 4 ∷ [])
-    ∷ (2 ∷ 4 ∷ 0 ∷ 0 ∷ 15 ∷ 5 ∷ [])
-    ∷ (1 ∷ 4 ∷ 0 ∷ 0 ∷ 15 ∷ 4 ∷ [])
-    ∷ (1 ∷ 8 ∷ 0 ∷ 0 ∷ 255 ∷ 0 ∷ [])
-    ∷ (2 ∷ 8 ∷ 1 ∷ 128 ∷ 127 ∷ 0 ∷ [])
-    ∷ (1 ∷ 8 ∷ 1 ∷ 128 ∷ 127 ∷ 0 ∷ [])
-    ∷ []
-
-abbrev pub listed : List ℕ
-listed = 0 ∷ 0 ∷ 0 ∷ 0 ∷ 0xFFFF ∷ 0xF8FF ∷ 0x800F ∷ 0 ∷ 0 ∷ 0 ∷ []
-
--- lent constants
-pub record Tables (x : List ℕ) (y z : List (List ℕ)) (w : List ℕ) : Type 0 where
-  pub classes-are : x ≡ classes
-  pub rows-are : y ≡ rows
-  pub fields-are : z ≡ fields
-  pub listed-are : w ≡ listed
 
 -- the class of an ID
 unfoldable pub classOf : ℕ → ℕ
 classOf id = getD classes id 0
 
--- a cell of a class's line
-abbrev pub cell : List (List ℕ) → ℕ → ℕ → ℕ
-cell t class column = getD (getD t class []) column 0
+-- the row of an ID
+abbrev pub rowAt : ℕ → List ℕ
+rowAt id = getD rows (classOf id) []
+
+-- an extra's place in an entry (+ A): PropertyFlags stand at 3
+abbrev pub placeNumber : Position → ℕ
+placeNumber absent = 0
+placeNumber (after n) = 4 + n
+
+unfoldable pub stepPlace : ℕ → ℕ
+stepPlace id = placeNumber (rowOf id .stepAt)
+
+-- what the fields of an ID are
+abbrev pub numberFields : ℕ → ℕ → Bool → ℤ → ℤ → Fields
+numberFields p w s low high = record { parts = p; width = w; signed = s; low = low; high = high; place = 0; listed = 0 }
+
+abbrev pub codeFields : ℕ → ℕ → ℕ → Fields
+codeFields p at all = record { parts = p; width = 4; signed = false; low = pos 0; high = pos 15; place = at; listed = all }
+
+unfoldable pub fieldsOf : ℕ → Fields
+fieldsOf id =
+    record {
+      parts = rowOf id .parts;
+      width = rowOf id .width;
+      signed = rowOf id .signed;
+      low = lowIn (rowOf id .values);
+      high = highIn (rowOf id .values);
+      place = placeNumber (rowOf id .codesAt);
+      listed = cond (hasCodes (rowOf id .codesAt)) (codeMask (rowOf id .values)) 0;
+    }

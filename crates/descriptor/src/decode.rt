@@ -11,7 +11,7 @@ use crate::table::FLAGS;
 use crate::table::LEAST;
 use crate::table::NEEDED;
 use crate::table::SIDE;
-use crate::table::STEP;
+use crate::table::step_place;
 use rules::State;
 
 // Past an entry, with the place and the state after it, or the number of the first check that it fails.
@@ -31,12 +31,12 @@ pub fn byte_at(s: &[u8], i: usize) -> u8
 }
 
 // The step byte of an entry, by its place, 0 where its ID has none; the entry's start and A are given as one number.
-fn step_in(place: u8, s: &[u8], from: usize) -> u8
+fn step_in(place: usize, s: &[u8], from: usize) -> u8
     requires { ⌜ (0 < place → from + place < length (now s)) ⌝ }
     ensures { λ r. ⌜ r ≡ stepBy place (now (s .entry)) from ⌝ }
 {
     if 0 < place {
-        return s[from + (place as usize)];
+        return s[from + place];
     }
     0
 }
@@ -72,30 +72,22 @@ fn late_host(id: u8, media: bool, passed: bool) -> bool
     false
 }
 
-// 3 to 7, for the entry at a place, with the class of its ID.
-fn content(
-    rows: &[[u8; 5]; 10],
-    class: usize,
-    in_ro: bool,
-    a: usize,
-    s: &[u8],
-    at: usize,
-    st: State,
-) -> Decoding
-    requires { ⌜ Standing (now rows) class a (now s) at st ⌝ }
+// 3 to 7, for the entry at a place, with the row of its ID.
+fn content(row: [u8; 4], in_ro: bool, a: usize, s: &[u8], at: usize, st: State) -> Decoding
+    requires { ⌜ Standing row a (now s) at st ⌝ }
     ensures { λ r. ⌜ r ≡ decodingOf at st (contentChecks in_ro st (entryAt a (now (s .entry)) at (st .sum))) ⌝ }
 {
-    if !stands(rows[class][SIDE], in_ro) {
+    if !stands(row[SIDE], in_ro) {
         return Decoding::Refused(3);
     }
     let memory = s[at + 2 + a] as usize;
-    if memory < (rows[class][NEEDED] as usize) {
+    if memory < (row[NEEDED] as usize) {
         return Decoding::Refused(4);
     }
-    if 3 < step_in(rows[class][STEP], s, at + a) {
+    if 3 < step_in(step_place(s[at]), s, at + a) {
         return Decoding::Refused(5);
     }
-    let media = media_at(rows[class][FLAGS], s, at + 3 + a);
+    let media = media_at(row[FLAGS], s, at + 3 + a);
     if late_host(s[at], media, st.media) {
         return Decoding::Refused(6);
     }
@@ -108,7 +100,7 @@ fn content(
 // The entry at a place: 1 and 2, then 3 to 7.
 pub fn decode(
     classes: &[u8; 19],
-    rows: &[[u8; 5]; 10],
+    rows: &[[u8; 4]; 10],
     in_ro: bool,
     a: usize,
     s: &[u8],
@@ -125,9 +117,9 @@ pub fn decode(
     if s.len() < at + length {
         return Decoding::Refused(1);
     }
-    let class = class_of(classes, s[at]);
-    if length < (rows[class][LEAST] as usize) + a {
+    let row = rows[class_of(classes, s[at])];
+    if length < (row[LEAST] as usize) + a {
         return Decoding::Refused(2);
     }
-    content(rows, class, in_ro, a, s, at, st)
+    content(row, in_ro, a, s, at, st)
 }

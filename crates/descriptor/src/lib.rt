@@ -14,7 +14,7 @@ ghost use Rattle.descriptor.specs.EntryLines.{listOf};
 ghost use Rattle.descriptor.specs.Cover.{coverOf};
 
 pub mod columns; // the columns of an entry's line
-mod table; // document 01's table: constant rows by ID class
+mod table; // document 01's table
 mod rows; // the row of an ID
 mod state; // what a walk keeps
 mod decode; // one entry: the checks 1 to 7
@@ -32,9 +32,7 @@ use crate::search::seek;
 use crate::state::into_ro;
 use crate::state::start;
 use crate::table::CLASSES;
-use crate::table::FIELDS;
 use crate::table::LEAST;
-use crate::table::LISTED;
 use crate::table::ROWS;
 use crate::text::put_refused;
 use crate::text::put_strings;
@@ -226,35 +224,11 @@ pub fn find(
             offset,
         } => {
             let a = mask_bytes(count);
-            let classes = CLASSES;
-            let rows = ROWS;
-            let fields = FIELDS;
-            let listed = LISTED;
             if in_ro {
-                let f = named_at(
-                    &classes,
-                    &rows,
-                    &fields,
-                    &listed,
-                    true,
-                    a,
-                    ro,
-                    start,
-                    offset,
-                );
+                let f = named_at(true, a, ro, start, offset);
                 return held(f, part, lane);
             }
-            let f = named_at(
-                &classes,
-                &rows,
-                &fields,
-                &listed,
-                false,
-                a,
-                rw,
-                start,
-                offset,
-            );
+            let f = named_at(false, a, rw, start, offset);
             held(f, part, lane)
         }
     }
@@ -318,23 +292,9 @@ fn cover_within(count: usize, rw: &[u8], ro: &[u8], offset: usize) -> Covered
             active_length: _,
         } => {
             let a = mask_bytes(count);
-            let classes = CLASSES;
-            let rows = ROWS;
-            let fields = FIELDS;
-            let listed = LISTED;
             let first = look(a, rw, 0, rw_count, offset);
             if first.number < rw_count {
-                let f = named_at(
-                    &classes,
-                    &rows,
-                    &fields,
-                    &listed,
-                    false,
-                    a,
-                    rw,
-                    first.at,
-                    first.sum,
-                );
+                let f = named_at(false, a, rw, first.at, first.sum);
                 return Covered::By {
                     ro: false,
                     number: first.number,
@@ -345,17 +305,7 @@ fn cover_within(count: usize, rw: &[u8], ro: &[u8], offset: usize) -> Covered
             }
             let last = look(a, ro, staged_length, ro_count, offset);
             if last.number < ro_count {
-                let f = named_at(
-                    &classes,
-                    &rows,
-                    &fields,
-                    &listed,
-                    true,
-                    a,
-                    ro,
-                    last.at,
-                    last.sum,
-                );
+                let f = named_at(true, a, ro, last.at, last.sum);
                 return Covered::By {
                     ro: true,
                     number: rw_count + last.number,

@@ -2,7 +2,6 @@
 ghost use mathlib.Core.Path.{_≡_};
 ghost use Prim.Native.Nat.{_≤_, _<_};
 ghost use Rattle.rules.specs.Descriptor.{byteAt, highFirst, entryAt};
-ghost use Rattle.descriptor.specs.Rows.{Tables};
 ghost use Rattle.descriptor.specs.Decode.{stepBy};
 ghost use Rattle.descriptor.specs.Wide.{codesBy};
 ghost use Rattle.descriptor.specs.Find.{namedOf};
@@ -10,20 +9,10 @@ ghost use Rattle.descriptor.specs.Marks.{OnEntry, markAfter, Passable};
 ghost use Rattle.descriptor.specs.EntryLines.{Short, lineBy, lineAt, lines};
 use crate::Named;
 use crate::decode::byte_at;
-use crate::rows::class_of;
 use crate::search::Mark;
 use crate::search::past;
-use crate::table::CLASSES;
-use crate::table::CODES;
-use crate::table::FIELDS;
-use crate::table::HIGH;
-use crate::table::LISTED;
-use crate::table::LOW;
-use crate::table::PARTS;
-use crate::table::ROWS;
-use crate::table::SIGNED;
-use crate::table::STEP;
-use crate::table::WIDTH;
+use crate::table::fields_of;
+use crate::table::step_place;
 
 // A byte of a string as a number, 0 past its end.
 fn byte_from(s: &[u8], at: usize) -> usize
@@ -44,60 +33,47 @@ fn pair_from(s: &[u8], at: usize) -> usize
 }
 
 // The step byte by its place, as the walks read it, 0 past the end of a string.
-fn step_at(place: u8, s: &[u8], from: usize) -> u8
-    requires { ⌜ from ≤ 500 ⌝ }
+fn step_at(place: usize, s: &[u8], from: usize) -> u8
+    requires { ⌜ (from ≤ 500) × (place ≤ 255) ⌝ }
     ensures { λ r. ⌜ r ≡ stepBy place (now (s .entry)) from ⌝ }
 {
     if 0 < place {
-        return byte_at(s, from + (place as usize));
+        return byte_at(s, from + place);
     }
     0
 }
 
 // The accepted codes, a bit for each, by the place of the code mask; 0 where there is none.
-fn codes_at(place: u8, listed: u16, s: &[u8], from: usize) -> usize
-    requires { ⌜ from ≤ 500 ⌝ }
+fn codes_at(place: usize, listed: usize, s: &[u8], from: usize) -> usize
+    requires { ⌜ (from ≤ 500) × (place ≤ 255) ⌝ }
     ensures { λ r. ⌜ r ≡ codesBy place listed (now (s .entry)) from ⌝ }
 {
     if 0 < place {
-        return (listed as usize) & pair_from(s, from + (place as usize));
+        return listed & pair_from(s, from + place);
     }
     0
 }
 
-// What a call needs of the entry at a place of a string. With the rows lent it is small enough to be inlined for both strings.
-pub fn named_at(
-    classes: &[u8; 19],
-    rows: &[[u8; 5]; 10],
-    fields: &[[u8; 6]; 10],
-    listed: &[u16; 10],
-    in_ro: bool,
-    a: usize,
-    s: &[u8],
-    start: usize,
-    offset: usize,
-) -> Named
-    requires { ⌜ Tables (now classes) (now rows) (now fields) (now listed) ⌝ }
+// What a call needs of the entry at a place of a string.
+pub fn named_at(in_ro: bool, a: usize, s: &[u8], start: usize, offset: usize) -> Named
     requires { ⌜ (a ≤ 2) × (start ≤ 120) ⌝ }
     ensures { λ r. ⌜ r ≡ namedOf in_ro (entryAt a (now (s .entry)) start offset) ⌝ }
 {
     let id = byte_at(s, start);
-    let class = class_of(classes, id);
-    let line = fields[class];
-    let row = rows[class];
+    let fields = fields_of(id);
     let from = start + a;
     Named {
         ro: in_ro,
         id: id as usize,
         offset,
-        parts: line[PARTS] as usize,
-        width: line[WIDTH] as usize,
-        signed: line[SIGNED] == 1,
-        low: 0 - (line[LOW] as i64),
-        high: line[HIGH] as i64,
-        coded: 0 < line[CODES],
-        codes: codes_at(line[CODES], listed[class], s, from),
-        step: step_at(row[STEP], s, from) as usize,
+        parts: fields.parts,
+        width: fields.width,
+        signed: fields.signed,
+        low: fields.low,
+        high: fields.high,
+        coded: 0 < fields.place,
+        codes: codes_at(fields.place, fields.listed, s, from),
+        step: step_at(step_place(id), s, from) as usize,
     }
 }
 
@@ -131,30 +107,11 @@ fn line_of(mask: usize, f: Named) -> [u16; 9]
 }
 
 // The line of the entry at a mark of the RW string.
-fn line_at(
-    classes: &[u8; 19],
-    rows: &[[u8; 5]; 10],
-    fields: &[[u8; 6]; 10],
-    listed: &[u16; 10],
-    a: usize,
-    s: &[u8],
-    mark: Mark,
-) -> [u16; 9]
-    requires { ⌜ Tables (now classes) (now rows) (now fields) (now listed) ⌝ }
+fn line_at(a: usize, s: &[u8], mark: Mark) -> [u16; 9]
     requires { ⌜ (1 ≤ a) × (a ≤ 2) × OnEntry a (now s) mark ⌝ }
     ensures { λ r. ⌜ r ≡ lineAt a (now (s .entry)) mark ⌝ }
 {
-    let f = named_at(
-        classes,
-        rows,
-        fields,
-        listed,
-        false,
-        a,
-        s,
-        mark.at,
-        mark.sum,
-    );
+    let f = named_at(false, a, s, mark.at, mark.sum);
     line_of(mask_at(a, s, mark.at + 2), f)
 }
 
@@ -163,14 +120,10 @@ pub fn lines_at(a: usize, s: &[u8], n: usize, list: &mut [[u16; 9]; 30])
     requires { ⌜ (1 ≤ a) × (a ≤ 2) × (n ≤ 30) × Passable a (now s) 0 n ⌝ }
     ensures { λ _. ⌜ now (list .exit) ≡ lines (λ i. lineAt a (now (s .entry)) (markAfter a (now (s .entry)) 0 i)) n (now (list .entry)) ⌝ }
 {
-    let classes = CLASSES;
-    let rows = ROWS;
-    let fields = FIELDS;
-    let listed = LISTED;
     let mut mark = Mark { at: 0, sum: 0 };
     let mut i = 0;
     while i < n {
-        list[i] = line_at(&classes, &rows, &fields, &listed, a, s, mark);
+        list[i] = line_at(a, s, mark);
         mark = past(a, s, mark);
         i += 1;
     }

@@ -80,13 +80,11 @@ look-requires c κs =
     (rw (c .mask-bytes .ensures .0) (covers-seeks (g .count) (now (g .rw)) (now (g .ro)) (g .offset) _ _ _ _ (loads k) false), omega arith)
 
 named-at-requires : tie.Need-named-at-requires
-named-at-requires c κs =
-    let h = c .before .before .before .before in
-    (record { classes-are = refl; rows-are = refl; fields-are = refl; listed-are = refl }, (h .before .before .before .mask-bytes .ensures .2, in-first h .0))
+named-at-requires c κs = (c .before .before .before .mask-bytes .ensures .2, in-first c .0)
 
 returns : tie.Need-returns
 unfolding namedOf
-returns c = let h = c .before .before .before .before .before in rw (c .named-at .ensures, h .before .before .before .mask-bytes .ensures .0) (in-first h .1)
+returns c = let h = c .before in rw (c .named-at .ensures, h .before .before .before .mask-bytes .ensures .0) (in-first h .1)
 
 look-requires-2 : tie.Need-look-requires-2
 look-requires-2 c κs =
@@ -99,16 +97,14 @@ look-requires-2 c κs =
     )
 
 named-at-requires-2 : tie.Need-named-at-requires-2
-named-at-requires-2 c κs =
-    let h = c .before .before .before .before in
-    (record { classes-are = refl; rows-are = refl; fields-are = refl; listed-are = refl }, (h .before .before .before .before .before .before .mask-bytes .ensures .2, in-last h .0))
+named-at-requires-2 c κs = (c .before .before .before .before .before .before .mask-bytes .ensures .2, in-last c .0)
 
-add-t53 : tie.Need-add-t53
-add-t53 c = omega (arith, in-last (c .before .before .before .before .before .before) .2)
+add-t17 : tie.Need-add-t17
+add-t17 c = omega (arith, in-last (c .before .before) .2)
 
 returns-2 : tie.Need-returns-2
 unfolding namedOf
-returns-2 c = let h = c .before .before .before .before .before .before in rw (c .before .named-at2 .ensures, h .before .before .before .before .before .before .mask-bytes .ensures .0) (in-last h .1)
+returns-2 c = let h = c .before .before in rw (c .before .named-at2 .ensures, h .before .before .before .before .before .before .mask-bytes .ensures .0) (in-last h .1)
 
 returns-3 : tie.Need-returns-3
 returns-3 c =
@@ -137,7 +133,7 @@ cover-within-spec =
     returns
     look-requires-2
     named-at-requires-2
-    add-t53
+    add-t17
     returns-2
     returns-3
     returns-4)

@@ -1,15 +1,17 @@
 -- `least_length` meets its contract.
 use mathlib.Core.Path.{_≡_, refl}
+use mathlib.Core.List.{[]}
 use Prim.Native.Nat.{_<_}
 use native.Mathlib.Omega.{arith}
 use borrow.Author.Needs.{needs}
+use lib.ListN.{getD}
 use Rattle.rules.specs.Parameter.{rowOf}
-use Rattle.descriptor.specs.Rows.{rows, cell}
+use Rattle.descriptor.specs.Rows.{rows}
 use Rattle.descriptor.proofs.TableRows.{row}
 use Rattle.descriptor.proofs.least_length.Statement.{statement}
 use Rattle.descriptor.proofs.least_length.Tie as tie
 
-least : (c : tie.After-class-of) → (cell rows (c .class-of .result) 2 ≡ rowOf (c .before .before .args .id) .least) × (cell rows (c .class-of .result) 2 < 256)
+least : (c : tie.After-class-of) → let l = getD (getD rows (c .class-of .result) []) 0 0 in (l ≡ rowOf (c .before .before .args .id) .least) × (l < 256)
 least c = let r = row (c .before .before .args .id) in rw (c .class-of .ensures .0) (r .least, r .least-small)
 
 class-of-requires : tie.Need-class-of-requires

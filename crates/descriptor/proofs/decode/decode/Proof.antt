@@ -1,7 +1,8 @@
--- `step` meets its contract: 1 and 2 are tested as the rules test them, and `content` does the rest.
+-- `decode` meets its contract: 1 and 2 are tested as the rules test them, and `content` does the rest.
 use borrow.Author.Needs.{needs}
 use mathlib.Core.Path.{_≡_, refl, ap, _∙_}
 use mathlib.Core.Bool.{false}
+use mathlib.Core.List.{[]}
 use Prim.Native.Nat.{ℕ, _+_, _-_, _<_}
 use native.Mathlib.Omega.{arith}
 use lib.ListN.{length, getD}
@@ -10,8 +11,7 @@ use denote.Ref.{now}
 use borrow.Author.Tests.{lt-ltb, le-ltb, eq-eqb, ne-eqb}
 use Rattle.rules.specs.Parameter.{rowOf}
 use Rattle.rules.specs.Descriptor.{byteAt, entryAt, overruns, lengthChecks, decodeAt}
-use Rattle.rules.proofs.Table.Rows.{row-least}
-use Rattle.descriptor.specs.Rows.{cell}
+use Rattle.descriptor.specs.Rows.{rowAt}
 use Rattle.descriptor.proofs.TableRows.{row}
 use Rattle.descriptor.proofs.Chain.{pass, stop}
 use Rattle.descriptor.proofs.decode.decode.Statement.{statement}
@@ -30,16 +30,15 @@ one c =
 length-lt : (c : tie.After-shared-slice-known2) → let g = c .before .before .before .args in getD (now (g .s)) (g .at + 1) 0 < 256
 length-lt c = let g = c .before .before .before .args in c .shared-slice-known2 .given (g .at + 1) .fits
 
--- the least Length of the class that was found
-least : (c : tie.After-class-of) → let b = c .before .before .before .before .before .before in cell (now (b .args .rows)) (c .class-of .result) 2 ≡ rowOf (byteAt (now (b .args .s)) (b .args .at)) .least
-least c =
-    let b = c .before .before .before .before .before .before in
-    rw (b .pre .table-is, c .class-of .ensures .0) (row (byteAt (now (b .args .s)) (b .args .at)) .least)
+-- the row of the entry's ID
+row-is : (c : tie.After-row) → let g = c .before .before .before .before .before .before .before .args in getD (now (g .rows)) (c .before .class-of .result) [] ≡ rowAt (byteAt (now (g .s)) (g .at))
+row-is c = rw (c .before .before .before .before .before .before .before .pre .table-is, c .before .class-of .ensures .0) refl
 
-least-small : (c : tie.After-class-of) → let b = c .before .before .before .before .before .before in cell (now (b .args .rows)) (c .class-of .result) 2 < 256
-least-small c =
-    let b = c .before .before .before .before .before .before in
-    rw (b .pre .table-is, c .class-of .ensures .0) (row (byteAt (now (b .args .s)) (b .args .at)) .least-small)
+least : (c : tie.After-row) → let g = c .before .before .before .before .before .before .before .args in getD (getD (now (g .rows)) (c .before .class-of .result) []) 0 0 ≡ rowOf (byteAt (now (g .s)) (g .at)) .least
+least c = let g = c .before .before .before .before .before .before .before .args in rw (row-is c) (row (byteAt (now (g .s)) (g .at)) .least)
+
+least-small : (c : tie.After-row) → let g = c .before .before .before .before .before .before .before .args in getD (getD (now (g .rows)) (c .before .class-of .result) []) 0 0 < 256
+least-small c = let g = c .before .before .before .before .before .before .before .args in rw (row-is c) (row (byteAt (now (g .s)) (g .at)) .least-small)
 
 add-if1 : tie.Need-add-if1
 add-if1 c = search needs
@@ -72,36 +71,34 @@ shared-slice-read-class-of c = search needs
 class-of-requires : tie.Need-class-of-requires
 class-of-requires c κs = c .before .before .before .before .before .pre .classes-is
 
-mul-if3 : tie.Need-mul-if3
-mul-if3 c = omega (arith, c .class-of .ensures .1)
+mul-row : tie.Need-mul-row
+mul-row c = omega (arith, c .class-of .ensures .1)
 
-index-1-if3 : tie.Need-index-1-if3
-index-1-if3 c = c .class-of .ensures .1
+element-copy-out-row : tie.Need-element-copy-out-row
+element-copy-out-row c = c .class-of .ensures .1
 
-index-2-if3 : tie.Need-index-2-if3
-index-2-if3 c = omega arith
+array-read-if3 : tie.Need-array-read-if3
+array-read-if3 c = omega arith
 
 cast-if3 : tie.Need-cast-if3
-cast-if3 c = record { fits = omega (arith, least-small (c .before)) }
+cast-if3 c = record { fits = omega (arith, least-small c) }
 
 add-if3 : tie.Need-add-if3
-add-if3 c = record { fits = omega (arith, least-small (c .before), c .before .before .before .before .before .before .before .pre .mask-top) }
+add-if3 c = record { fits = omega (arith, least-small c, c .before .before .before .before .before .before .before .pre .mask-top) }
 
 returns-3 : tie.Need-returns-3
 unfolding decodeAt lengthChecks
-returns-3 c = let k = c .before .before in pass _ _ _ _ (one (k .before .before)) (rw (← least k) (stop _ _ _ _ (lt-ltb _ _ (c .if3 .taken))))
+returns-3 c = let k = c .before in pass _ _ _ _ (one (k .before .before .before)) (rw (← least k) (stop _ _ _ _ (lt-ltb _ _ (c .if3 .taken))))
 
 content-requires : tie.Need-content-requires
 content-requires c κs =
-    let k = c .before .before in
-    let b = k .before .before .before .before .before .before in
+    let k = c .before in
+    let b = k .before .before .before .before .before .before .before in
     record {
-      table-is = b .pre .table-is;
-      class-is = k .class-of .ensures .0;
-      class-top = k .class-of .ensures .1;
+      row-is = row-is k;
       mask-low = b .pre .mask-low;
       mask-top = b .pre .mask-top;
-      room = let q = rw (b .pre .table-is) at (c .if3 .left) in omega (arith, q, rw (b .pre .table-is) at (least k), row-least (byteAt (now (b .args .s)) (b .args .at)), k .before .before .if2 .left);
+      room = omega (arith, c .if3 .left, k .before .before .before .if2 .left);
       short = b .pre .short;
       number = b .pre .number;
       sum = b .pre .sum;
@@ -109,7 +106,7 @@ content-requires c κs =
 
 returns-4 : tie.Need-returns-4
 unfolding decodeAt lengthChecks
-returns-4 c = let e = c .before in let k = e .before .before in pass _ _ _ _ (one (k .before .before)) (rw (← least k) (pass _ _ _ _ (le-ltb _ _ (e .if3 .left)) (c .content .ensures)))
+returns-4 c = let e = c .before in let k = e .before in pass _ _ _ _ (one (k .before .before .before)) (rw (← least k) (pass _ _ _ _ (le-ltb _ _ (e .if3 .left)) (c .content .ensures)))
 
 pub decode-spec : {M : Type 1} → statement M
 decode-spec =
@@ -124,9 +121,9 @@ decode-spec =
     returns-2
     shared-slice-read-class-of
     class-of-requires
-    mul-if3
-    index-1-if3
-    index-2-if3
+    mul-row
+    element-copy-out-row
+    array-read-if3
     cast-if3
     add-if3
     returns-3
