@@ -1,12 +1,12 @@
 -- Lists of lines: what a line says of an entry, and the list that apply makes of the RW entries.
 use mathlib.Core.Path.{_≡_, refl, sym, ap, _∙_, subst}
-use mathlib.Core.Bool.{Bool, true, false, cond}
+use mathlib.Core.Bool.{Bool, true, false}
 use mathlib.Core.List.{List, []}
-use Prim.Native.Nat.{ℕ, zero, suc, _+_, _*_, _≤_, _<_}
+use Prim.Native.Nat.{ℕ, zero, suc, _+_, _≤_, _<_}
 use native.Mathlib.Omega.{arith}
 use borrow.Author.Tests.{lt-ltb}
 use lib.Dec.{eqb, leb}
-use lib.IntN.{ℤ, pos, _-ℤ_}
+use lib.IntN.{pos, _-ℤ_}
 use lib.ListN.{length, getD}
 use mir.Syntax.{w64}
 use mir.Val.{SFits}
@@ -15,15 +15,15 @@ use Rattle.rules.specs.declared.Loaded.the-variants.{Accepted as accepted}
 use Rattle.rules.specs.Parameter.{rowOf}
 use Rattle.rules.specs.Descriptor.{maskBytes, byteAt, highFirst}
 use Rattle.rules.specs.Load.{loadOf, rwEntries, mapOf}
-use Rattle.rules.specs.Place.{nothing, partsOf, widthOf, signedOf}
+use Rattle.rules.specs.Place.{nothing, signedOf}
 use Rattle.rules.specs.Demands.{Accepted}
 use Rattle.rules.proofs.Place.AcceptedMap.{GoodEntry, rw-held, entry-good, entry-ends}
 use Rattle.rules.proofs.Load.Walks.{map-good, load-accepted}
 use Rattle.rules.proofs.Load.EntryHeads.{in-rw}
 use Rattle.rules.proofs.Load.Checks.{high-one, high-two}
 use Rattle.rules.proofs.Basics.Tests.{by-test}
-use Rattle.descriptor.specs.Find.{lowIn, highIn, hasCodes, listedOf, namedOf}
-use Rattle.descriptor.specs.EntryLines.{below, above, flag, lineOf, lines, listOf}
+use Rattle.descriptor.specs.Find.{hasCodes, namedOf}
+use Rattle.descriptor.specs.EntryLines.{flag, lineOf, lines, listOf}
 use Rattle.descriptor.proofs.TableRows.{parts-few, width-narrow}
 use Rattle.descriptor.proofs.Accepts.{coded-values}
 use Rattle.descriptor.proofs.Marks.{Marked, marked}

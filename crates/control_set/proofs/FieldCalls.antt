@@ -4,7 +4,7 @@ use mathlib.Core.Bool.{Bool, true, false, _&&_, _||_, not}
 use mathlib.Core.List.{List, [], _∷_}
 use Prim.Native.Nat.{ℕ, _^_, _<_}
 use native.Mathlib.Omega.{arith}
-use lib.IntN.{ℤ, pos}
+use lib.IntN.{ℤ}
 use lib.ListN.{length}
 use lib.Dec.{T, ltb, eqb, ltb→lt, eqb→eq}
 use borrow.Author.Tests.{ltb-false}
@@ -14,7 +14,7 @@ use Rattle.rules.specs.declared.Refusal.{Refusal}
 use Rattle.rules.specs.declared.Refusal.the-variants.{Plain as plain}
 use Rattle.rules.specs.Parameter.{rowOf}
 use Rattle.rules.specs.Load.{Map, sized, mapOf}
-use Rattle.rules.specs.Place.{entry, partsOf, widthOf, signedOf, isSet, isStaged, isRW, isLane, heldBy, hasField, Width, Field}
+use Rattle.rules.specs.Place.{entry, partsOf, widthOf, signedOf, isSet, isStaged, isRW, isLane, heldBy, hasField, Field}
 use Rattle.rules.specs.Accept.{accepts, toBits, weightOf}
 use Rattle.rules.specs.Layout.{bankSize, HasBytes}
 use Rattle.rules.specs.Refuse.{Verdict, passes, refuses, refuseIf, firstOf, check9, check8, check1to7, bankOrder, exists, misdirected}
@@ -30,9 +30,9 @@ use Rattle.rules.proofs.Bank.Places.{named-has-bytes}
 use Rattle.descriptor.specs.declared.Found.{Found}
 use Rattle.descriptor.specs.declared.Found.the-variants.{In as isIn, Refused as notFound}
 use Rattle.descriptor.specs.declared.Named.{Named}
-use Rattle.descriptor.specs.Find.{InMap, acceptedBy, toldOrder, foundOf}
+use Rattle.descriptor.specs.Find.{acceptedBy, toldOrder, foundOf}
 use Rattle.descriptor.proofs.Accepts.{named-accepts}
-use Rattle.descriptor.proofs.Finds.{id-is, side-is, offset-is, parts-is, width-is, signed-is, step-is, found-stops, found-9, found-8, found-in}
+use Rattle.descriptor.proofs.Finds.{id-is, side-is, offset-is, width-is, signed-is, step-is, found-stops, found-9, found-8, found-in}
 use Rattle.control_set.specs.Field.{Spot, InBits, bitsAt, withBits}
 use Rattle.control_set.specs.Values.{CodesLow, numberBy}
 use Rattle.control_set.specs.Gate.{Opened, Entered, FieldGated, refusedOf}

@@ -1,23 +1,21 @@
 -- Refusal 14 by range and codes: the number of a field's bits, whether it is accepted, and whether every one is.
-use mathlib.Core.Path.{_≡_, refl, sym, ap, _∙_}
+use mathlib.Core.Path.{_≡_, refl}
 use mathlib.Core.Bool.{Bool, true, false, _&&_, _||_, not, cond}
-use Prim.Native.Nat.{ℕ, zero, suc, _+_, _-_, _/_, _%_, _^_, _≤_, _<_}
+use Prim.Native.Nat.{ℕ, zero, suc, _+_, _-_, _%_, _^_, _≤_, _<_}
 use native.Mathlib.Omega.{arith}
 use native.Mathlib.Decide.{decLt}
 use lib.Pow.{pow-pos, pow-mono, ones-split, ones-lt, high}
-use lib.Bits.{bitAnd, and-mask}
-use borrow.Author.Tests.{le-leb, lt-leb, lt-ltb, le-ltb, leb-true}
-use lib.Dec.{T, eqb, eqb→eq, ltb, leb, leb→le}
-use lib.IntN.{ℤ, pos, negsuc, natAbs, _-ℤ_}
-use lib.Signed.{leZ, nonNeg}
+use borrow.Author.Tests.{le-leb, lt-leb, lt-ltb}
+use lib.Dec.{T, eqb, eqb→eq, leb, leb→le}
+use lib.IntN.{ℤ, pos, negsuc, _-ℤ_}
+use lib.Signed.{leZ}
 use Rattle.rules.specs.declared.Entry.{Entry}
 use Rattle.rules.specs.Numbers.{bitOf}
-use Rattle.rules.specs.Parameter.{rowOf}
 use Rattle.rules.specs.Place.{partsOf, widthOf, signedOf}
 use Rattle.rules.specs.Accept.{inMask, fromBits, accepts}
 use Rattle.rules.proofs.Basics.Tests.{and₂, from-true, is-true, and-no}
 use Rattle.descriptor.specs.Find.{namedOf, acceptedIn}
-use Rattle.descriptor.proofs.Accepts.{signed-byte, named-accepts}
+use Rattle.descriptor.proofs.Accepts.{named-accepts}
 use Rattle.control_set.specs.declared.plan.Fields.{Fields}
 use Rattle.control_set.specs.Plan.{LowCodes, fieldsOf, acceptsBits, spansEvery, acceptsEvery}
 use Rattle.control_set.specs.Values.{numberBy}

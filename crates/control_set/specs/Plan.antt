@@ -4,15 +4,14 @@ use mathlib.Core.Bool.{Bool, true, false, _&&_, _||_, not, cond}
 use mathlib.Core.List.{List, []}
 use Prim.Native.Nat.{ℕ, suc, _+_, _-_, _*_, _%_, _^_, _≤_, _<_}
 use lib.Bits.{bitOr}
-use lib.Dec.{eqb, leb}
-use lib.IntN.{ℤ, pos, negsuc, _-ℤ_}
+use lib.Dec.{eqb}
+use lib.IntN.{pos, negsuc, _-ℤ_}
 use lib.Signed.{leZ}
 use lib.ListN.{length, getD, set}
 use Rattle.rules.specs.declared.Entry.{Entry}
 use Rattle.rules.specs.Descriptor.{isApp, hasApp}
 use Rattle.rules.specs.Numbers.{bitOf, any}
-use Rattle.rules.specs.Parameter.{rowOf}
-use Rattle.rules.specs.Place.{partsOf, widthOf, signedOf, Width}
+use Rattle.rules.specs.Place.{Width}
 use Rattle.rules.specs.Layout.{bankSize, setStart}
 use Rattle.rules.specs.Refuse.{chooses}
 use Rattle.rules.specs.Bank.{Bank, appSelIn, loop}

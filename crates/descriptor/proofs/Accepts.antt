@@ -1,6 +1,6 @@
 -- What a call needs of an entry says what it accepts: one test of the table's values, computed for each ID that the table names and
 -- for the others, and what follows from it.
-use mathlib.Core.Path.{_≡_, refl, sym, _∙_}
+use mathlib.Core.Path.{_≡_, refl, _∙_}
 use mathlib.Core.Bool.{Bool, true, false, _&&_, _||_, not, cond, Bool·beq}
 use mathlib.Core.List.{List, [], _∷_}
 use Prim.Native.Nat.{ℕ, _≤_, _<_}
@@ -15,11 +15,11 @@ use lib.ListN.{List·getD-eq-default}
 use Rattle.rules.specs.declared.Entry.{Entry}
 use Rattle.rules.specs.Numbers.{bitOf, sum}
 use Rattle.rules.specs.Parameter.{Position, absent, after, Range, rows as tableRows, space, both, rowOf}
-use Rattle.rules.specs.Place.{partsOf, widthOf, signedOf}
+use Rattle.rules.specs.Place.{partsOf}
 use Rattle.rules.specs.Accept.{within, inMask, inCodes, accepts}
 use Rattle.rules.proofs.Basics.Tests.{and₂, is-true, from-true, and-no}
 use Rattle.rules.proofs.Basics.Ids.{below, below-at, every-id}
-use Rattle.descriptor.specs.Find.{lowIn, highIn, codeMask, hasCodes, listedOf, namedOf, acceptedIn, acceptedBy}
+use Rattle.descriptor.specs.Find.{lowIn, highIn, codeMask, hasCodes, namedOf, acceptedIn, acceptedBy}
 use Rattle.descriptor.proofs.TableRows.{same-test, only, only-then, eqZ, eqZ→eq}
 use Rattle.descriptor.proofs.Bits.{and-bit}
 

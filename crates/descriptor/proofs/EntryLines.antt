@@ -1,13 +1,13 @@
 -- The lines of the RW entries: what a line says, what a list of them holds, and that a string has at most 30 entries.
 use mathlib.Core.Path.{_≡_, refl, sym, ap, _∙_}
-use mathlib.Core.Bool.{Bool, true, false, cond}
+use mathlib.Core.Bool.{Bool, false, cond}
 use mathlib.Core.List.{List, [], _∷_}
 use Prim.Native.Nat.{ℕ, zero, suc, _+_, _*_, _^_, _≤_, _<_}
 use native.Mathlib.Decide.{ℕ-discrete}
 use native.Mathlib.Omega.{arith}
-use lib.Bits.{bitAnd, and-le-l}
+use lib.Bits.{and-le-l}
 use lib.Dec.{leb}
-use lib.IntN.{ℤ, pos, negsuc, _-ℤ_}
+use lib.IntN.{ℤ, pos, _-ℤ_}
 use lib.ListN.{length, getD, set, length-set}
 use lib.Seq.{getD-set-same, getD-set-other}
 use borrow.Author.Tests.{lt-ltb}
@@ -18,9 +18,9 @@ use Rattle.rules.specs.declared.Entry.{Entry}
 use Rattle.rules.specs.declared.Loaded.the-variants.{Accepted as accepted}
 use Rattle.rules.specs.Numbers.{sum}
 use Rattle.rules.specs.Parameter.{rowOf}
-use Rattle.rules.specs.Descriptor.{maskBytes, entryAt}
+use Rattle.rules.specs.Descriptor.{maskBytes}
 use Rattle.rules.specs.Load.{loadOf, rwEntries}
-use Rattle.rules.specs.Place.{nothing, partsOf, widthOf, signedOf}
+use Rattle.rules.specs.Place.{nothing}
 use Rattle.rules.specs.Accept.{within}
 use Rattle.rules.specs.Demands.{Accepted}
 use Rattle.rules.proofs.Basics.Tests.{by-test}
@@ -28,7 +28,6 @@ use Rattle.rules.proofs.Load.Checks.{decode-passed}
 use Rattle.rules.proofs.Load.Fills.{Filled, rw-filled}
 use Rattle.rules.proofs.Load.EntryHeads.{strings-short}
 use Rattle.rules.proofs.Load.Walks.{load-accepted}
-use Rattle.descriptor.specs.declared.Named.{Named}
 use Rattle.descriptor.specs.Find.{lowIn, highIn, codeMask, hasCodes, listedOf, namedOf}
 use Rattle.descriptor.specs.Marks.{markAfter, Passable}
 use Rattle.descriptor.specs.EntryLines.{below, above, lineOf, lineBy, Short, lineAt, lines, listOf}

@@ -11,10 +11,10 @@ use lib.ListN.{getD, List·getD-eq-default}
 use Rattle.rules.specs.declared.Entry.{Entry}
 use Rattle.rules.specs.Parameter.{Row as TableRow, rowOf, rows as tableRows, space, Side, RW, RO, both}
 use Rattle.rules.specs.Place.{partsOf, widthOf}
-use Rattle.rules.proofs.Basics.Tests.{and₂, and₃, and₄, is-false, or-right}
+use Rattle.rules.proofs.Basics.Tests.{and₂, and₃, and₄, and₅, is-false, or-right}
 use Rattle.rules.proofs.Table.Rows.{looked-up}
 use Rattle.rules.proofs.Basics.Ids.{every-id}
-use Rattle.descriptor.specs.Rows.{classes, classOf, rowAt, placeNumber, stepPlace, numberFields, fieldsOf}
+use Rattle.descriptor.specs.Rows.{classes, classOf, rowAt, placeNumber, stepPlace, noFields, fieldsOf}
 use Rattle.descriptor.specs.Find.{lowIn, highIn, hasCodes}
 use Rattle.descriptor.specs.EntryLines.{below, above}
 
@@ -175,11 +175,12 @@ unnamed id =
 
 abbrev empty : TableRow → Bool
 empty r =
-    eqb (r .parts) 0
+    not (r .flags)
+    && (eqb (r .parts) 0
     && (eqb (r .width) 0
     && (not (r .signed)
     && (eqZ (lowIn (r .values)) (pos 0)
-    && (eqZ (highIn (r .values)) (pos 0) && (eqb (placeNumber (r .codesAt)) 0 && not (hasCodes (r .codesAt)))))))
+    && (eqZ (highIn (r .values)) (pos 0) && (eqb (placeNumber (r .codesAt)) 0 && not (hasCodes (r .codesAt))))))))
 
 empty-tested : (id : ℕ) → T (only (unnamed id) (empty (rowOf id)))
 unfolding rowOf
@@ -200,14 +201,15 @@ pub no-fields :
     → (id ≡ 0x10 → ⊥)
     → (id ≡ 0x11 → ⊥)
     → (id ≡ 0x12 → ⊥)
-    → numberFields 0 0 false (pos 0) (pos 0) ≡ fieldsOf id
+    → noFields ≡ fieldsOf id
 unfolding fieldsOf
 no-fields id h2 h3 h4 h5 h6 h7 h8 h15 h16 h17 h18 =
     let r : TableRow = rowOf id in
     let t = only-then (unnamed id) _ (empty-tested id) (rw (ne-eqb id 0x02 h2, ne-eqb id 0x03 h3, ne-eqb id 0x04 h4, ne-eqb id 0x05 h5, ne-eqb id 0x06 h6, ne-eqb id 0x07 h7, ne-eqb id 0x08 h8, ne-eqb id 0x0F h15, ne-eqb id 0x10 h16, ne-eqb id 0x11 h17, ne-eqb id 0x12 h18) tt) in
-    let (t₁, t₂, t₃, more) = and₄ (eqb (r .parts) 0) (eqb (r .width) 0) (not (r .signed)) _ t in
+    let (t₀, t₁, t₂, t₃, more) = and₅ (not (r .flags)) (eqb (r .parts) 0) (eqb (r .width) 0) (not (r .signed)) _ t in
     let (t₄, t₅, t₆, t₇) = and₄ (eqZ (lowIn (r .values)) (pos 0)) (eqZ (highIn (r .values)) (pos 0)) (eqb (placeNumber (r .codesAt)) 0) (not (hasCodes (r .codesAt))) more in
     rw (
+      is-false (r .flags) t₀,
       eqb→eq (r .parts) 0 t₁,
       eqb→eq (r .width) 0 t₂,
       is-false (r .signed) t₃,

@@ -9,7 +9,7 @@ use lib.Bits.{bitAnd}
 use lib.IntN.{ℤ}
 use lib.Dec.{ltb}
 use Rattle.rules.specs.Parameter.{rowOf, Position, absent, after}
-use Rattle.rules.specs.Descriptor.{byteAt, codesOf, entryAt}
+use Rattle.rules.specs.Descriptor.{byteAt, mediaSide, codesOf, entryAt}
 use Rattle.rules.specs.Place.{partsOf, widthOf, signedOf}
 use Rattle.descriptor.specs.declared.Named.{Named}
 use Rattle.descriptor.specs.declared.table.Fields.{Fields}
@@ -42,6 +42,7 @@ named-entry :
     (record {
       ro = inRO;
       id = id;
+      media = mediaSide (fieldsOf id .flags) (byteAt s (start + a + 3));
       offset = offset;
       parts = fieldsOf id .parts;
       width = fieldsOf id .width;
@@ -56,7 +57,9 @@ named-entry :
 unfolding namedOf partsOf widthOf signedOf fieldsOf stepPlace
 named-entry inRO a s start offset =
     let id : ℕ = byteAt s start in
+    let q : start + a + 3 ≡ start + 3 + a = omega arith in
     rw (
+      q,
       place-codes (rowOf id .codesAt),
       codes-by (rowOf id .codesAt) (codeMask (rowOf id .values)) s start a,
       step-by (rowOf id .stepAt) s start a,
@@ -65,9 +68,10 @@ named-entry inRO a s start offset =
 
 -- the same from what was read
 pub named-read :
-    (inRO : Bool) (a : ℕ) (s : List ℕ) (start offset id : ℕ) (f : Fields) (low high : ℤ) (codes step : ℕ)
+    (inRO : Bool) (a : ℕ) (s : List ℕ) (start offset id : ℕ) (f : Fields) (media : Bool) (low high : ℤ) (codes step : ℕ)
     → id ≡ byteAt s start
     → f ≡ fieldsOf id
+    → media ≡ mediaSide (f .flags) (byteAt s (start + a + 3))
     → low ≡ f .low
     → high ≡ f .high
     → codes ≡ codesBy (f .place) (f .listed) s (start + a)
@@ -76,6 +80,7 @@ pub named-read :
     (record {
       ro = inRO;
       id = id;
+      media = media;
       offset = offset;
       parts = f .parts;
       width = f .width;
@@ -87,4 +92,4 @@ pub named-read :
       step = step;
     })
     (namedOf inRO (entryAt a s start offset))
-named-read inRO a s start offset id f low high codes step e₁ e₂ e₃ e₄ e₅ e₆ = rw (e₅, e₆, e₃, e₄, e₂, e₁) (named-entry inRO a s start offset)
+named-read inRO a s start offset id f media low high codes step e₁ e₂ e₃ e₄ e₅ e₆ e₇ = rw (e₃, e₆, e₇, e₄, e₅, e₂, e₁) (named-entry inRO a s start offset)

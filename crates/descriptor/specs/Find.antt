@@ -48,6 +48,7 @@ namedOf inRO e =
     record {
       ro = inRO;
       id = e .id;
+      media = e .media;
       offset = e .offset;
       parts = partsOf e;
       width = widthOf e;

@@ -1,5 +1,5 @@
 -- The constant rows as lists, and what the fields of an ID are by document 01's table.
-use mathlib.Core.Bool.{Bool, false, cond}
+use mathlib.Core.Bool.{Bool, true, false, cond}
 use mathlib.Core.List.{List, [], _∷_}
 use Prim.Native.Nat.{ℕ, _+_}
 use lib.IntN.{ℤ, pos}
@@ -44,14 +44,18 @@ stepPlace id = placeNumber (rowOf id .stepAt)
 
 -- what the fields of an ID are
 abbrev pub numberFields : ℕ → ℕ → Bool → ℤ → ℤ → Fields
-numberFields p w s low high = record { parts = p; width = w; signed = s; low = low; high = high; place = 0; listed = 0 }
+numberFields p w s low high = record { flags = true; parts = p; width = w; signed = s; low = low; high = high; place = 0; listed = 0 }
 
 abbrev pub codeFields : ℕ → ℕ → ℕ → Fields
-codeFields p at all = record { parts = p; width = 4; signed = false; low = pos 0; high = pos 15; place = at; listed = all }
+codeFields p at all = record { flags = true; parts = p; width = 4; signed = false; low = pos 0; high = pos 15; place = at; listed = all }
+
+abbrev pub noFields : Fields
+noFields = record { flags = false; parts = 0; width = 0; signed = false; low = pos 0; high = pos 0; place = 0; listed = 0 }
 
 unfoldable pub fieldsOf : ℕ → Fields
 fieldsOf id =
     record {
+      flags = rowOf id .flags;
       parts = rowOf id .parts;
       width = rowOf id .width;
       signed = rowOf id .signed;

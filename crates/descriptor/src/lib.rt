@@ -163,12 +163,13 @@ pub fn entry_bytes<'a>(count: usize, rw: &'a [u8], ro: &'a [u8], entry: usize) -
     &rw[start..end]
 }
 
-// What a call needs of the entry that it names: whether it stands in the RO string, its ID, where its fields lie, whether their
+// What a call needs of the entry that it names: whether it stands in the RO string, its ID and side, where its fields lie, whether their
 // numbers are signed, the accepted numbers, from low to high and, where there is a code mask, those with a bit in `codes`, and the
 // step.
 pub struct Named {
     pub ro: bool,
     pub id: usize,
+    pub media: bool,
     pub offset: usize,
     pub parts: usize,
     pub width: usize,

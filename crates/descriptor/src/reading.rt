@@ -1,7 +1,7 @@
 // The reading of an entry: what a call needs of the one that it names, and a line for each RW entry. The walks read less.
 ghost use mathlib.Core.Path.{_≡_};
 ghost use Prim.Native.Nat.{_≤_, _<_};
-ghost use Rattle.rules.specs.Descriptor.{byteAt, highFirst, entryAt};
+ghost use Rattle.rules.specs.Descriptor.{byteAt, mediaSide, highFirst, entryAt};
 ghost use Rattle.descriptor.specs.Decode.{stepBy};
 ghost use Rattle.descriptor.specs.Wide.{codesBy};
 ghost use Rattle.descriptor.specs.Find.{namedOf};
@@ -54,6 +54,16 @@ fn codes_at(place: usize, listed: usize, s: &[u8], from: usize) -> usize
     0
 }
 
+// Whether an entry with its PropertyFlags at a place is media side, where they are read; 0 past the end of a string.
+fn media_from(read: bool, s: &[u8], at: usize) -> bool
+    ensures { λ r. ⌜ r ≡ mediaSide read (byteAt (now (s .entry)) at) ⌝ }
+{
+    if read {
+        return byte_at(s, at) % 2 == 1;
+    }
+    false
+}
+
 // What a call needs of the entry at a place of a string.
 pub fn named_at(in_ro: bool, a: usize, s: &[u8], start: usize, offset: usize) -> Named
     requires { ⌜ (a ≤ 2) × (start ≤ 120) ⌝ }
@@ -65,6 +75,7 @@ pub fn named_at(in_ro: bool, a: usize, s: &[u8], start: usize, offset: usize) ->
     Named {
         ro: in_ro,
         id: id as usize,
+        media: media_from(fields.flags, s, from + 3),
         offset,
         parts: fields.parts,
         width: fields.width,

@@ -1,7 +1,7 @@
 // Document 01's table: constant rows for the checks of an entry, indexed by ID class, and what the fields of an ID are. Each is
 // proved of all IDs.
 ghost use mathlib.Core.Path.{_≡_};
-ghost use Rattle.descriptor.specs.Rows.{stepPlace, numberFields, codeFields, fieldsOf};
+ghost use Rattle.descriptor.specs.Rows.{stepPlace, numberFields, codeFields, noFields, fieldsOf};
 
 // The class of each ID below 13h; every ID from 13h on has the class of 00h.
 pub const CLASSES: [u8; 19] = [0, 1, 2, 3, 4, 2, 2, 5, 6, 1, 1, 1, 1, 1, 1, 7, 7, 8, 9];
@@ -38,9 +38,10 @@ pub fn step_place(id: u8) -> usize
     }
 }
 
-// What the fields of an ID are: parts, bits a lane, whether their numbers are signed, the accepted numbers, from low to high, the
-// place of the code mask in an entry (+ A; 0: none), and the codes that can be accepted by it, a bit for each.
+// What the fields of an ID are: whether PropertyFlags are read, parts, bits a lane, whether the numbers are signed, the accepted
+// numbers, from low to high, the place of the code mask in an entry (+ A; 0: none), and the codes that it may allow, a bit for each.
 pub struct Fields {
+    pub flags: bool,
     pub parts: usize,
     pub width: usize,
     pub signed: bool,
@@ -55,6 +56,7 @@ fn numbers(parts: usize, width: usize, signed: bool, low: i64, high: i64) -> Fie
     ensures { λ r. ⌜ r ≡ numberFields parts width signed low high ⌝ }
 {
     Fields {
+        flags: true,
         parts,
         width,
         signed,
@@ -70,6 +72,7 @@ fn codes(parts: usize, place: usize, listed: usize) -> Fields
     ensures { λ r. ⌜ r ≡ codeFields parts place listed ⌝ }
 {
     Fields {
+        flags: true,
         parts,
         width: 4,
         signed: false,
@@ -77,6 +80,22 @@ fn codes(parts: usize, place: usize, listed: usize) -> Fields
         high: 15,
         place,
         listed,
+    }
+}
+
+// Space alone.
+fn space() -> Fields
+    ensures { λ r. ⌜ r ≡ noFields ⌝ }
+{
+    Fields {
+        flags: false,
+        parts: 0,
+        width: 0,
+        signed: false,
+        low: 0,
+        high: 0,
+        place: 0,
+        listed: 0,
     }
 }
 
@@ -95,6 +114,6 @@ pub fn fields_of(id: u8) -> Fields
         0x10 => numbers(1, 8, false, 0, 255),
         0x11 => numbers(2, 8, true, -128, 127),
         0x12 => numbers(1, 8, true, -128, 127),
-        _ => numbers(0, 0, false, 0, 0),
+        _ => space(),
     }
 }

@@ -66,6 +66,10 @@ SomeLine (l ∷ ls) id P = (Among id (l .ids) × P (l .cells)) ⊎ SomeLine ls i
 abbrev pub OfLine : ℕ → (Cells → Type 0) → Type 0
 OfLine id P = SomeLine lines id P
 
+-- an ID of the table
+abbrev pub InTable : ℕ → Type 0
+InTable id = OfLine id (λ c. Unit {0})
+
 -- "accepted values": a number is in one of the ranges
 abbrev pub InRanges : List (ℤ × ℤ) → ℤ → Type 0
 InRanges [] v = ⊥
@@ -105,6 +109,13 @@ ExtrasAt [] s at e = Unit {0}
 ExtrasAt (index ∷ l) s at e = ExtrasAt l s (at + 1) e
 ExtrasAt (codeMask ∷ l) s at e = (e .codes ≡ byteAt s at * 256 + byteAt s (at + 1)) × ExtrasAt l s (at + 2) e
 ExtrasAt (step ∷ l) s at e = (e .step ≡ byteAt s at) × ExtrasAt l s (at + 1) e
+
+-- "step above 3", of extras that a string has from a place on
+abbrev pub StepAbove : List Extra → List ℕ → ℕ → Type 0
+StepAbove [] s at = ⊥
+StepAbove (index ∷ l) s at = StepAbove l s (at + 1)
+StepAbove (codeMask ∷ l) s at = StepAbove l s (at + 2)
+StepAbove (step ∷ l) s at = (3 < byteAt s at) ⊎ StepAbove l s (at + 1)
 
 -- "PropertyFlags, 1 byte; then the extras named in the table", for an entry of a string with masks of a bytes
 abbrev pub ExtrasRead : ℕ → List ℕ → Entry → Type 0

@@ -14,7 +14,7 @@ use Rattle.rules.specs.Load.{start, next, intoRO, Map}
 use Rattle.rules.specs.Place.{entry, partsOf, lengthOf}
 use Rattle.rules.specs.Layout.{bankSize}
 use Rattle.rules.specs.Bank.{Bank, appSelIn, numberIn}
-use Rattle.rules.specs.Columns.{Accepts, BelowLeast, BelowNeeded}
+use Rattle.rules.specs.Columns.{Accepts, BelowLeast, BelowNeeded, InTable, OfLine, StepAbove}
 
 -- a rule tells which refusals it gives; A is a refusal, or a number alone
 abbrev pub Rule : Type 0 → Type 1
@@ -36,10 +36,6 @@ abbrev pub WrongString : Bool → ℕ → Type 0
 WrongString true id = (0x01 ≤ id) × (id ≤ 0x10)
 WrongString false id = (0x11 ≤ id) × (id ≤ 0x12)
 
--- an ID of the table: 02h to 08h, 0Fh to 12h
-abbrev pub InTable : ℕ → Type 0
-InTable id = ((0x02 ≤ id) × (id ≤ 0x08)) ⊎ ((0x0F ≤ id) × (id ≤ 0x12))
-
 -- a media-side table entry at a place of a string: PropertyFlags, "Bit 0 set means media side"
 abbrev pub MediaSide : ℕ → List ℕ → ℕ → Type 0
 MediaSide a s at = InTable (byteAt s at) × (byteAt s (at + 3 + a) % 2 ≡ 1)
@@ -51,12 +47,11 @@ entryRules ro a s at st =
     let id : ℕ = byteAt s at in
     let size : ℕ = byteAt s (at + 1) in
     let memory : ℕ = byteAt s (at + 2 + a) in
-    let step : ℕ = byteAt s (at + 5 + a) in
     gives 1 ((left ≡ 1) ⊎ (left < size))
     ∷ gives 2 (BelowLeast a id size)
     ∷ gives 3 (WrongString ro id)
     ∷ gives 4 (BelowNeeded id memory)
-    ∷ gives 5 ((id ≡ 0x12) × (3 < step))
+    ∷ gives 5 (OfLine id (λ c. StepAbove (c .extras) s (at + 4 + a)))
     ∷ gives 6 ((0x02 ≤ id) × (id ≤ 0x08) × (¬ (MediaSide a s at)) × (st .media ≡ true))
     ∷ gives 7 (256 < st .sum + memory)
     ∷ []

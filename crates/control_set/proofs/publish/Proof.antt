@@ -14,7 +14,7 @@ use Rattle.rules.specs.Refuse.{exists, misdirected, unaccepted}
 use Rattle.rules.specs.Bank.{bankPlan, bankDoes}
 use Rattle.rules.specs.Place.{Field}
 use Rattle.rules.proofs.Refusals.CallOrder.{meets}
-use Rattle.control_set.proofs.Outcomes.{call-10, call-11}
+use Rattle.control_set.proofs.Outcomes.{call-11}
 use Rattle.control_set.specs.Gate.{Entered, FieldGated}
 use Rattle.control_set.proofs.FieldCalls.{entered-opened, call-unfound, no-publish, publish-tested, publish-directed, publish-there}
 use Rattle.control_set.proofs.Stores.{storable, call-stores}

@@ -1,7 +1,7 @@
 -- `find` meets its contract.
 use borrow.Author.Needs.{needs}
 use borrow.Author.Tests.{not-true, not-false}
-use mathlib.Core.Path.{_≡_, refl, sym, ap, _∙_}
+use mathlib.Core.Path.{_≡_, sym, _∙_}
 use mathlib.Core.Bool.{cond}
 use Prim.Native.Nat.{_≤_}
 use denote.Ref.{now}

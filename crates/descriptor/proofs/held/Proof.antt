@@ -1,5 +1,4 @@
 -- `held` meets its contract.
-use borrow.Author.Needs.{needs}
 use mathlib.Core.Path.{refl}
 use Rattle.descriptor.specs.Find.{heldIn}
 use Rattle.descriptor.proofs.held.Statement.{statement}

@@ -7,7 +7,6 @@ use lib.Dec.{ltb}
 use borrow.Author.Tests.{ltb-true, not-true, not-false}
 use Rattle.placement.specs.Owner.{fieldIn}
 use Rattle.placement.proofs.Small.{product-fits, product-some}
-use borrow.Author.Needs.{needs}
 use Rattle.placement.proofs.field_in.Statement.{statement}
 use Rattle.placement.proofs.field_in.Tie as tie
 

@@ -7,7 +7,7 @@ use mathlib.Core.List.{List}
 use Prim.Native.Nat.{ℕ, zero, suc, _≤_, _<_}
 use native.Mathlib.Omega.{arith}
 use native.Mathlib.Decide.{ℕ-discrete}
-use lib.ListN.{length, getD}
+use lib.ListN.{length}
 use lib.Dec.{T, T-not, eqb, eqb→eq, ltb→lt, lt→ltb}
 use Rattle.rules.specs.Load.{Map}
 use Rattle.rules.specs.Place.{entry, partsOf, signedOf, widthOf, isRW, Field}

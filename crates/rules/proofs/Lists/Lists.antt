@@ -7,7 +7,7 @@ use Prim.Native.Nat.{ℕ, _+_, _-_, _%_, _^_, _≤_, _<_}
 use native.Mathlib.Nat.{zero-div, zero-mod}
 use native.Mathlib.Omega.{arith}
 use lib.IntN.{pos}
-use lib.ListN.{length, getD, set, replicate, drop, length-replicate, length-append, length-drop, List·getD-append, getD-replicate}
+use lib.ListN.{length, getD, replicate, drop, length-replicate, length-append, length-drop, List·getD-append, getD-replicate}
 use lib.Seq.{drop-at}
 use lib.Pow.{pow-pos}
 use borrow.Author.Tests.{lt-ltb}

@@ -1,21 +1,21 @@
 -- The checks of one entry, 1 to 7, against the rules of 01: the first check that an entry fails is the first rule that applies.
-use mathlib.Core.Path.{_≡_, refl, sym, _∙_}
+use mathlib.Core.Path.{_≡_, refl}
 use mathlib.Core.Logic.{_↔_, Iff·trans}
-use mathlib.Core.Bool.{Bool, true, false, _&&_, _||_, not}
+use mathlib.Core.Bool.{Bool, true, false, _&&_, not}
 use mathlib.Core.List.{List, [], _∷_}
-use Prim.Native.Nat.{ℕ, _+_, _-_, _%_, _≤_, _<_}
+use Prim.Native.Nat.{ℕ, _+_, _-_, _%_, _≤_}
 use native.Mathlib.Omega.{arith}
 use lib.ListN.{length, List·getD-eq-default}
-use lib.Dec.{T, ltb, leb, eqb, ltb→lt, lt→ltb, eqb→eq}
-use borrow.Author.Tests.{lt-leb, ne-eqb, eqb-false, eq-eqb}
+use lib.Dec.{T, ltb, leb, eqb}
+use borrow.Author.Tests.{lt-leb}
 use Rattle.rules.specs.Words.{Entry, Decoded, decoded, failed, State}
-use Rattle.rules.specs.Parameter.{both, Position, absent, after, rows, space, rowOf}
-use Rattle.rules.specs.Descriptor.{byteAt, stepOf, entryAt, mayStand, lateHost, refuse, lengthChecks, contentChecks, decodeAt}
-use Rattle.rules.specs.Conditions.{Rule, gives, First, WrongString, InTable, MediaSide, entryRules}
-use Rattle.rules.proofs.Basics.Tests.{from-true, and-no}
+use Rattle.rules.specs.Parameter.{both, rows, space, rowOf}
+use Rattle.rules.specs.Descriptor.{byteAt, entryAt, mayStand, lateHost, refuse, lengthChecks, contentChecks, decodeAt}
+use Rattle.rules.specs.Conditions.{Rule, gives, First, WrongString, MediaSide, entryRules}
+use Rattle.rules.proofs.Basics.Tests.{and-no}
 use Rattle.rules.proofs.Basics.Facts.{lt-says, le-says, eq-says, true-says, not-says, or-says, and-says, and-says₄}
-use Rattle.rules.proofs.Basics.Ids.{every-id, by-row}
-use Rattle.rules.proofs.Table.Columns.{least-says, needed-says}
+use Rattle.rules.proofs.Basics.Ids.{by-row}
+use Rattle.rules.proofs.Table.Columns.{least-says, needed-says, flags-say, step-says}
 use Rattle.rules.proofs.Refusals.Firsts.{first-here, first-past}
 
 -- a chain of checks fails by the first of some rules
@@ -60,65 +60,13 @@ side-wrong false = by-row (λ id. not (mayStand (rowOf id .side) false)) (wrong 
 side-says : (ro : Bool) (id : ℕ) → T (not (mayStand (rowOf id .side) ro)) ↔ WrongString ro id
 side-says ro id = rw (side-wrong ro id) (wrong-says ro id)
 
--- 5: 12h alone has a step, after its index
-abbrev stepAfterIndex : Position → Bool
-stepAfterIndex absent = false
-stepAfterIndex (after n) = eqb n 1
-
--- a row's step is absent or stands after its index
-abbrev stepFine : Position → Bool
-stepFine absent = true
-stepFine (after n) = eqb n 1
-
-step-past : (id : ℕ) → 19 ≤ id → stepAfterIndex (rowOf id .stepAt) ≡ eqb id 0x12
-step-past id h = rw (row-past id h, ne-eqb id 0x12 (omega arith))
-
-step-row : (id : ℕ) → stepAfterIndex (rowOf id .stepAt) ≡ eqb id 0x12
-unfolding rowOf
-step-row = by-row (λ id. stepAfterIndex (rowOf id .stepAt)) (λ id. eqb id 0x12) tt step-past
-
-step-fine : (id : ℕ) → T (stepFine (rowOf id .stepAt))
-unfolding rowOf
-step-fine = every-id (λ id. stepFine (rowOf id .stepAt)) tt (λ id h. rw (row-past id h) tt)
-
-step-says :
-    (id : ℕ) (s : List ℕ) (at : ℕ)
-    → T (ltb 3 (stepOf (rowOf id .stepAt) s at)) ↔ ((id ≡ 0x12) × (3 < byteAt s (at + 1)))
-unfolding stepOf
-step-says id s at = go (rowOf id .stepAt) (step-row id) (step-fine id)
-  where
-    go : (x : Position) → stepAfterIndex x ≡ eqb id 0x12 → T (stepFine x) → T (ltb 3 (stepOf x s at)) ↔ ((id ≡ 0x12) × (3 < byteAt s (at + 1)))
-    go absent q f = (λ h. absurd h, λ h. eqb-false id 0x12 (sym q) (h .0))
-    go (after n) q f =
-        let e : n ≡ 1 = eqb→eq n 1 f in
-        let p : eqb id 0x12 ≡ true = sym q ∙ eq-eqb n 1 e in
-        rw e (λ h. (eqb→eq id 0x12 (from-true p), ltb→lt 3 _ h), λ h. lt→ltb 3 _ (h .1))
-
--- 6: the IDs whose PropertyFlags are read are those of the table
-abbrev inTable : ℕ → Bool
-inTable id = (leb 0x02 id && leb id 0x08) || (leb 0x0F id && leb id 0x12)
-
-in-table-says : (id : ℕ) → T (inTable id) ↔ InTable id
-in-table-says id =
-    or-says (leb 0x02 id && leb id 0x08) (leb 0x0F id && leb id 0x12)
-    (and-says (leb 0x02 id) (leb id 0x08) (le-says 0x02 id) (le-says id 0x08))
-    (and-says (leb 0x0F id) (leb id 0x12) (le-says 0x0F id) (le-says id 0x12))
-
-flags-past : (id : ℕ) → 19 ≤ id → rowOf id .flags ≡ inTable id
-flags-past id h =
-    rw (row-past id h, lt-leb id 0x08 (omega arith), lt-leb id 0x12 (omega arith), and-no (leb 0x02 id), and-no (leb 0x0F id))
-
-flags-row : (id : ℕ) → rowOf id .flags ≡ inTable id
-unfolding rowOf
-flags-row = by-row (λ id. rowOf id .flags) inTable tt flags-past
-
 module _ (a : ℕ) (s : List ℕ) (at : ℕ) (st : State) where
   abbrev id : ℕ
   id = byteAt s at
 
   pub media-says : T (entryAt a s at (st .sum) .media) ↔ MediaSide a s at
   media-says =
-      and-says (rowOf id .flags) (eqb (byteAt s (at + 3 + a) % 2) 1) (rw (flags-row id) (in-table-says id)) (eq-says _ 1)
+      and-says (rowOf id .flags) (eqb (byteAt s (at + 3 + a) % 2) 1) (flags-say id) (eq-says _ 1)
 
   late-says :
       T (lateHost (entryAt a s at (st .sum)) (st .media)) ↔ ((0x02 ≤ id) × (id ≤ 0x08) × (¬ (MediaSide a s at)) × (st .media ≡ true))
@@ -131,12 +79,11 @@ module _ (a : ℕ) (s : List ℕ) (at : ℕ) (st : State) where
   entry-fails ro =
       let e : Entry = entryAt a s at (st .sum) in
       let left : ℕ = length s - at in
-      let q : at + 5 + a ≡ at + 4 + a + 1 = omega arith in
       before _ 1 (or-says (eqb left 1) (ltb left (e .length)) (eq-says left 1) (lt-says left (e .length)))
       (before _ 2 (least-says (e .id) a (e .length))
       (before _ 3 (side-says ro (e .id))
       (before _ 4 (needed-says (e .id) (e .memory))
-      (before _ 5 (rw q (step-says (e .id) s (at + 4 + a)))
+      (before _ 5 (step-says (e .id) s (at + 4 + a))
       (before _ 6 late-says
       (before _ 7 (lt-says 256 (st .sum + e .memory))
       (passed-all e)))))))

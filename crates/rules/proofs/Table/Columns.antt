@@ -12,14 +12,15 @@ use lib.Dec.{T, ltb, leb, eqb, eqb→eq}
 use lib.ListN.{List·getD-eq-default}
 use Rattle.rules.specs.Words.{Entry}
 use Rattle.rules.specs.Parameter.{both, Position, absent, after, Range, Row, rows, space, rowOf}
-use Rattle.rules.specs.Descriptor.{codesOf, stepOf, entryAt}
+use Rattle.rules.specs.Descriptor.{byteAt, codesOf, stepOf, entryAt}
 use Rattle.rules.specs.Place.{partsOf, widthOf, signedOf}
 use Rattle.rules.specs.Accept.{within, inMask, inCodes, accepts}
-use Rattle.rules.specs.Columns.{Extra, index, codeMask, step, Values, numbers, ifInMask, Cells, Line, lines, Space, Among, SomeLine, OfLine, InRanges, InMask, Takes, Accepts, BelowLeast, BelowNeeded, Shaped, TwosComplement, ExtrasAt, ExtrasRead}
-use Rattle.rules.proofs.Basics.Tests.{is-true, is-false, and₂, and₄, or-cases, or-yes, either}
+use Rattle.rules.specs.Columns.{Extra, index, codeMask, step, Values, numbers, ifInMask, Cells, Line, lines, Space, Among, SomeLine, OfLine, InTable, InRanges, InMask, Takes, Accepts, BelowLeast, BelowNeeded, Shaped, TwosComplement, ExtrasAt, StepAbove, ExtrasRead}
+use Rattle.rules.proofs.Basics.Tests.{is-true, is-false, and₂, and₅, or-left, or-right, or-cases, or-yes, either}
 use Rattle.rules.proofs.Basics.Facts.{lt-says, le-says, eq-says, true-says, or-says, and-says}
 use Rattle.rules.proofs.Load.Checks.{high-two}
 use Rattle.rules.proofs.Basics.Ids.{every-id, by-row}
+use Rattle.rules.proofs.Table.Rows.{looked-up}
 
 -- a row's cells in 01's words
 
@@ -110,8 +111,12 @@ abbrev noValues : List Range → Bool
 noValues [] = true
 noValues (r ∷ l) = false
 
+abbrev noStep : Position → Bool
+noStep absent = true
+noStep (after n) = false
+
 abbrev spacious : Row → Bool
-spacious r = eqb (r .parts) 0 && (eqb (r .needed) 0 && (eqb (r .least) 3 && noValues (r .values)))
+spacious r = eqb (r .parts) 0 && (eqb (r .needed) 0 && (eqb (r .least) 3 && (noValues (r .values) && noStep (r .stepAt))))
 
 tested : (id : ℕ) → T (cond (spaces id) (spacious (rowOf id)) (hasLine id lines))
 unfolding rowOf
@@ -124,6 +129,7 @@ record Spacious (r : Row) : Type 0 where
   needed : r .needed ≡ 0
   least : r .least ≡ 3
   values : T (noValues (r .values))
+  step : T (noStep (r .stepAt))
 
 module _ (id : ℕ) where
   abbrev r : Row
@@ -131,8 +137,8 @@ module _ (id : ℕ) where
 
   space-row : T (spaces id) → Spacious r
   space-row h =
-      let (p, n, l, v) = and₄ (eqb (r .parts) 0) (eqb (r .needed) 0) (eqb (r .least) 3) (noValues (r .values)) (rw (is-true (spaces id) h) at (tested id)) in
-      record { parts = eqb→eq _ _ p; needed = eqb→eq _ _ n; least = eqb→eq _ _ l; values = v }
+      let (p, n, l, v, t) = and₅ (eqb (r .parts) 0) (eqb (r .needed) 0) (eqb (r .least) 3) (noValues (r .values)) (noStep (r .stepAt)) (rw (is-true (spaces id) h) at (tested id)) in
+      record { parts = eqb→eq _ _ p; needed = eqb→eq _ _ n; least = eqb→eq _ _ l; values = v; step = t }
 
   -- what holds of a row's cells holds of the ID's line, or the ID takes space
   line-of : (P : Cells → Type 0) → P (cellsOf r) → OfLine id P ⊎ (Space id × Spacious r)
@@ -156,6 +162,64 @@ module _ (id : ℕ) where
   pub needed-says : (memory : ℕ) → T (ltb memory (r .needed)) ↔ BelowNeeded id memory
   needed-says memory =
       Iff·trans (lt-says memory (r .needed)) (by-line (λ c. memory < c .needed) Iff·rfl (λ s. rw (s .needed) Iff·rfl))
+
+-- the IDs of the table are those whose PropertyFlags are read
+among-listed : (id : ℕ) (l : List ℕ) → Among id l → T (listed id l)
+among-listed id [] h = absurd h
+among-listed id (x ∷ l) (inl h) = or-left (eqb id x) (listed id l) (eq-says id x .1 h)
+among-listed id (x ∷ l) (inr h) = or-right (eqb id x) (listed id l) (among-listed id l h)
+
+line-listed : (id : ℕ) (P : Cells → Type 0) (ls : List Line) → SomeLine ls id P → T (hasLine id ls)
+line-listed id P [] h = absurd h
+line-listed id P (l ∷ ls) (inl h) = or-left (listed id (l .ids)) (hasLine id ls) (among-listed id (l .ids) (h .0))
+line-listed id P (l ∷ ls) (inr h) = or-right (listed id (l .ids)) (hasLine id ls) (line-listed id P ls h)
+
+flags-row : (id : ℕ) → rowOf id .flags ≡ hasLine id lines
+unfolding rowOf
+flags-row =
+    by-row (λ id. rowOf id .flags) (λ id. hasLine id lines) tt
+    λ id l. rw (List·getD-eq-default rows (space both) {n = id} l, ne-eqb id 0x02 (omega arith), ne-eqb id 0x05 (omega arith), ne-eqb id 0x06 (omega arith), ne-eqb id 0x03 (omega arith), ne-eqb id 0x04 (omega arith), ne-eqb id 0x07 (omega arith), ne-eqb id 0x08 (omega arith), ne-eqb id 0x0F (omega arith), ne-eqb id 0x10 (omega arith), ne-eqb id 0x11 (omega arith), ne-eqb id 0x12 (omega arith)) refl
+
+pub flags-say : (id : ℕ) → T (rowOf id .flags) ↔ InTable id
+flags-say id = rw (flags-row id) (λ t. some-line id (λ c. Unit {0}) lines same-cells t tt, line-listed id (λ c. Unit {0}) lines)
+
+-- a step
+no-mask-step : (n : ℕ) (s : List ℕ) (at : ℕ) → ¬ (StepAbove (indexed n codeMask) s at)
+no-mask-step zero s at h = h
+no-mask-step (suc n) s at h = no-mask-step n s (at + 1) h
+
+step-above : (n : ℕ) (s : List ℕ) (at : ℕ) → T (ltb 3 (byteAt s (at + n))) ↔ StepAbove (indexed n step) s at
+step-above zero s at =
+    let q : at + 0 ≡ at = omega arith in
+    rw q (Iff·trans (lt-says 3 (byteAt s at)) (inl, ⊎-elim (λ h. h) (λ h. absurd h)))
+step-above (suc n) s at = let q : at + suc n ≡ at + 1 + n = omega arith in rw q (step-above n s (at + 1))
+
+-- of both extras at once there is no row
+abbrev oneExtra : Position → Position → Bool
+oneExtra absent y = true
+oneExtra (after n) y = noStep y
+
+one-extra : (id : ℕ) → T (oneExtra (rowOf id .codesAt) (rowOf id .stepAt))
+unfolding rowOf
+one-extra = looked-up (λ r. oneExtra (r .codesAt) (r .stepAt)) rows (space both) tt tt
+
+steps-say : (x y : Position) (s : List ℕ) (at : ℕ) → T (oneExtra x y) → T (ltb 3 (stepOf y s at)) ↔ StepAbove (named x y) s at
+unfolding stepOf
+steps-say absent absent s at t = Iff·rfl
+steps-say (after n) absent s at t = (λ h. absurd h, λ h. absurd (no-mask-step n s at h))
+steps-say absent (after n) s at t = step-above n s at
+steps-say (after n) (after k) s at t = absurd t
+
+no-step : (y : Position) (s : List ℕ) (at : ℕ) → T (noStep y) → T (ltb 3 (stepOf y s at)) ↔ ⊥
+unfolding stepOf
+no-step absent s at t = Iff·rfl
+no-step (after n) s at t = absurd t
+
+pub step-says : (id : ℕ) (s : List ℕ) (at : ℕ) → T (ltb 3 (stepOf (rowOf id .stepAt) s at)) ↔ OfLine id (λ c. StepAbove (c .extras) s at)
+step-says id s at =
+    Iff·trans
+    (by-line id (λ c. StepAbove (c .extras) s at) (steps-say (rowOf id .codesAt) (rowOf id .stepAt) s at (one-extra id)) (λ x. no-step (rowOf id .stepAt) s at (x .step)))
+    (⊎-elim (λ h. h) (λ h. absurd (h .1)), inl)
 
 -- accepted values
 ranges-say : (l : List Range) (v : ℤ) → T (within l v) ↔ InRanges (pairs l) v

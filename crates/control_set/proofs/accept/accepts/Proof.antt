@@ -1,7 +1,6 @@
 -- `accepts` meets its contract.
 use mathlib.Core.Path.{_≡_, refl}
 use mathlib.Core.Bool.{true, _&&_}
-use borrow.Author.Needs.{needs}
 use native.Mathlib.Omega.{arith}
 use lib.Signed.{leZ}
 use mir.Syntax.{w64}

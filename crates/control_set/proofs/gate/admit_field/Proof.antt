@@ -1,5 +1,4 @@
 -- `admit_field` meets its contract.
-use mathlib.Core.Path.{_≡_, _∙_}
 use denote.Ref.{now}
 use borrow.Author.Needs.{needs}
 use Rattle.rules.proofs.Bank.Places.{size-is}

@@ -1,6 +1,6 @@
 -- `accepts_all` meets its contract.
 use borrow.Author.Needs.{needs}
-use mathlib.Core.Path.{_≡_, refl, sym, _∙_}
+use mathlib.Core.Path.{refl, sym, _∙_}
 use Rattle.control_set.proofs.JudgedFields.{coded-width}
 use Rattle.control_set.proofs.plan.accepts_all.Statement.{statement}
 use Rattle.control_set.proofs.plan.accepts_all.Tie as tie

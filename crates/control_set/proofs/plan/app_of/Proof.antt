@@ -1,5 +1,4 @@
 -- `app_of` meets its contract.
-use mathlib.Core.Path.{ap}
 use native.Mathlib.Omega.{arith}
 use borrow.Author.Needs.{needs}
 use Rattle.control_set.proofs.plan.app_of.Statement.{statement}

@@ -1,6 +1,6 @@
 -- `spans_all` meets its contract.
 use borrow.Author.Needs.{needs}
-use mathlib.Core.Path.{_≡_, refl, sym, _∙_}
+use mathlib.Core.Path.{_≡_, refl, _∙_}
 use Prim.Native.Nat.{_-_, _^_}
 use lib.IntN.{pos}
 use mir.Syntax.{w64}

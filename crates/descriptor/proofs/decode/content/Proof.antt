@@ -12,10 +12,8 @@ use Rattle.rules.specs.Parameter.{rowOf}
 use Rattle.rules.specs.declared.Decoded.{Decoded}
 use Rattle.rules.specs.Descriptor.{byteAt, entryAt, stepOf, mediaSide, mayStand, refuse, contentChecks}
 use Rattle.descriptor.specs.declared.decode.Decoding.{Decoding}
-use Rattle.descriptor.specs.Rows.{stepPlace}
-use Rattle.descriptor.specs.Decode.{decodingOf, stepBy}
+use Rattle.descriptor.specs.Decode.{decodingOf}
 use Rattle.descriptor.proofs.Chain.{pass, stop, side-is, memory-in, flags-in, step-in, media-is, needed-small, needed-is, step-is}
-use Rattle.descriptor.proofs.TableRows.{small}
 use Rattle.descriptor.proofs.decode.content.Statement.{statement}
 use Rattle.descriptor.proofs.decode.content.Tie as tie
 

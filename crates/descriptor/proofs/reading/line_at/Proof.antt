@@ -1,6 +1,5 @@
 -- `line_at` meets its contract.
 use borrow.Author.Needs.{needs}
-use mathlib.Core.Path.{_≡_, refl}
 use mathlib.Core.Bool.{false}
 use native.Mathlib.Omega.{arith}
 use denote.Ref.{now}

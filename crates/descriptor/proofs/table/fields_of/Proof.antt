@@ -1,7 +1,6 @@
 -- `fields_of` meets its contract: an arm says what document 01's table says of its ID.
 use borrow.Author.Needs.{needs}
 use mathlib.Core.Path.{refl, _∙_}
-use native.Mathlib.Omega.{arith}
 use Rattle.rules.specs.Numbers.{sum}
 use Rattle.rules.specs.Parameter.{rowOf}
 use Rattle.rules.specs.Accept.{within}
@@ -44,8 +43,8 @@ numbers-requires-7 c κs = search needs
 numbers-requires-8 : tie.Need-numbers-requires-8
 numbers-requires-8 c κs = search needs
 
-numbers-requires-9 : tie.Need-numbers-requires-9
-numbers-requires-9 c κs = search needs
+space-requires : tie.Need-space-requires
+space-requires c κs = search needs
 
 returns : tie.Need-returns
 unfolding fieldsOf rowOf codeMask within sum
@@ -94,7 +93,7 @@ returns-11 c = c .numbers8 .ensures ∙ rw (c .before .match .keys11) refl
 returns-12 : tie.Need-returns-12
 returns-12 c =
     let m = c .before .match in
-    c .numbers9 .ensures
+    c .space .ensures
     ∙ no-fields (c .before .before .args .id) (m .rest .0 .0 .0 .0 .0 .0 .0 .0 .0 .0 .1) (m .rest .0 .0 .0 .0 .0 .0 .0 .0 .0 .1) (m .rest .0 .0 .0 .0 .0 .0 .0 .0 .1) (m .rest .0 .0 .0 .0 .0 .0 .0 .1) (m .rest .0 .0 .0 .0 .0 .0 .1) (m .rest .0 .0 .0 .0 .0 .1) (m .rest .0 .0 .0 .0 .1) (m .rest .0 .0 .0 .1) (m .rest .0 .0 .1) (m .rest .0 .1) (m .rest .1)
 
 pub fields-of-spec : {M : Type 1} → statement M
@@ -112,7 +111,7 @@ fields-of-spec =
     numbers-requires-6
     numbers-requires-7
     numbers-requires-8
-    numbers-requires-9
+    space-requires
     returns
     returns-2
     returns-3
