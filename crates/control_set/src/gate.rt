@@ -107,11 +107,11 @@ fn admit_byte_within(
         Covered::Refused(r) => Byte::Refused(r),
         Covered::Nothing => Byte::Refused(Refusal::Plain(10)),
         Covered::By {
-            ro: in_ro,
             number: _,
             offset: start,
             parts,
             width,
+            ro: in_ro,
         } => {
             if !((set < 3) & !((set < 2) & in_ro)) {
                 return Byte::Refused(Refusal::Plain(10));

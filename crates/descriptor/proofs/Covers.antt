@@ -92,7 +92,7 @@ pub record Covering (count : ℕ) (rw ro : List ℕ) (k : ℕ) (inRO : Bool) (n 
 data Says (count : ℕ) (rw ro : List ℕ) (k : ℕ) : Covered → Type 0 where
   refused : (r : Refusal) → loadOf count rw ro ≡ rejected r → Says count rw ro k (notCovered r)
   none : Accepted count rw ro → ((s : ℕ) → lengthOf (mapOf count rw ro) s ≤ k) → Says count rw ro k noEntry
-  one : {inRO : Bool} {n offset parts width : ℕ} → Covering count rw ro k inRO n offset parts width → Says count rw ro k (by inRO n offset parts width)
+  one : {inRO : Bool} {n offset parts width : ℕ} → Covering count rw ro k inRO n offset parts width → Says count rw ro k (by n offset parts width inRO)
 
 module _ (count : ℕ) (first last : List ℕ) (k : ℕ) where
   abbrev m : Map
@@ -117,7 +117,7 @@ module _ (count : ℕ) (first last : List ℕ) (k : ℕ) where
       n : ℕ
       n = coverIndex (m .entries) k
 
-      go : (b : Bool) → ltb n (length (m .entries)) ≡ b → Says count first last k (cond b (by (not (isRW m n)) n (entry m n .offset) (partsOf (entry m n)) (widthOf (entry m n))) noEntry)
+      go : (b : Bool) → ltb n (length (m .entries)) ≡ b → Says count first last k (cond b (by n (entry m n .offset) (partsOf (entry m n)) (widthOf (entry m n)) (not (isRW m n))) noEntry)
       go true q =
           let l : n < length (m .entries) = ltb-true n (length (m .entries)) q in
           let (x, y) = and₂ (leb (entry m n .offset) k) (ltb k (entry m n .offset + entry m n .memory)) (from-true (index-spans (m .entries) k l)) in
@@ -151,11 +151,11 @@ module _ (count : ℕ) (first last : List ℕ) (k : ℕ) where
 
   pub cover-one :
       (inRO : Bool) (n offset parts width : ℕ)
-      → coverOf count first last k ≡ by inRO n offset parts width
+      → coverOf count first last k ≡ by n offset parts width inRO
       → Covering count first last k inRO n offset parts width
   cover-one inRO n offset parts width q = go (rw q at (says count first last k))
     where
-      go : Says count first last k (by inRO n offset parts width) → Covering count first last k inRO n offset parts width
+      go : Says count first last k (by n offset parts width inRO) → Covering count first last k inRO n offset parts width
       go (one c) = c
 
 -- for `cover`: what the search of each string finds
@@ -175,7 +175,7 @@ module _ (count : ℕ) (first last : List ℕ) (k n c d t : ℕ) (h : loadOf cou
       → o ≤ k
       → k < o + byteAt s (i + 2 + maskBytes count)
       → (i ≤ length s)
-      × (by (not (isRW p e)) e (entryAt (maskBytes count) s i o .offset) (partsOf (entryAt (maskBytes count) s i o)) (widthOf (entryAt (maskBytes count) s i o)) ≡ coverOf count first last k)
+      × (by e (entryAt (maskBytes count) s i o .offset) (partsOf (entryAt (maskBytes count) s i o)) (widthOf (entryAt (maskBytes count) s i o)) (not (isRW p e)) ≡ coverOf count first last k)
   unfolding coverIn
   covers-at e {s} {i} {o} l w q low top =
       let a : entry p e .start ≡ i = ap (λ x. x .at) q in
@@ -214,7 +214,7 @@ module _ (count : ℕ) (first last : List ℕ) (k n c d t : ℕ) (h : loadOf cou
       pub covers-found :
           x .number < cond inRO c n
           → (x .at ≤ 120)
-          × (by inRO (cond inRO (n + x .number) (x .number)) (x .sum) (partsOf (entryAt (maskBytes count) (cond inRO last first) (x .at) (x .sum))) (widthOf (entryAt (maskBytes count) (cond inRO last first) (x .at) (x .sum))) ≡ coverOf count first last k)
+          × (by (cond inRO (n + x .number) (x .number)) (x .sum) (partsOf (entryAt (maskBytes count) (cond inRO last first) (x .at) (x .sum))) (widthOf (entryAt (maskBytes count) (cond inRO last first) (x .at) (x .sum))) inRO ≡ coverOf count first last k)
           × (cond inRO (n + x .number) (x .number) ≤ 240)
       covers-found l =
           let (u, v) = in-string (x .number) l in
@@ -236,7 +236,7 @@ module _ (count : ℕ) (first last : List ℕ) (k n c d t : ℕ) (h : loadOf cou
   covers-none past = go (ltb (coverIndex (p .entries) k) (length (p .entries))) refl ∙ cover-accepted count first last k ok
     where
       go : (b : Bool) → ltb (coverIndex (p .entries) k) (length (p .entries)) ≡ b
-          → noEntry ≡ cond b (by (not (isRW p (coverIndex (p .entries) k))) (coverIndex (p .entries) k) (entry p (coverIndex (p .entries) k) .offset) (partsOf (entry p (coverIndex (p .entries) k))) (widthOf (entry p (coverIndex (p .entries) k)))) noEntry
+          → noEntry ≡ cond b (by (coverIndex (p .entries) k) (entry p (coverIndex (p .entries) k) .offset) (partsOf (entry p (coverIndex (p .entries) k))) (widthOf (entry p (coverIndex (p .entries) k))) (not (isRW p (coverIndex (p .entries) k)))) noEntry
       go true q =
           let i = coverIndex (p .entries) k in
           let u : i < length (p .entries) = ltb-true i (length (p .entries)) q in

@@ -69,7 +69,7 @@ module _ {ro : Bool} {a : ℕ} {s : List ℕ} {st₀ : State} {at : ℕ} {st : S
           same = r .same ∙ ap (λ l. text ++ entryLines (st .number) l) (left (m .0) (decoded e) (m .1) d) ∙ one-more (st .number) text e (rest ro a (m .0) s (at + e .length) (next st e));
         }
 
--- what a step that refuses says of its decode
+-- what a refusal says of the entry's decode
 pub failed-by : (at : ℕ) (st : State) (d : Decoded) (n : ℕ) → decodingOf at st d ≡ stops n → d ≡ failed n
 failed-by at st (decoded e) n h = let o : _≡_ {A = ℕ} 0 1 = cc in absurd (omega arith)
 failed-by at st (failed k) n h = let o : k ≡ n = cc in ap failed o

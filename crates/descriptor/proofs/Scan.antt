@@ -20,7 +20,7 @@ use Rattle.descriptor.specs.declared.decode.Decoding.the-variants.{Past 
 use Rattle.descriptor.specs.Decode.{decodingOf}
 use Rattle.descriptor.specs.Walks.{stoppedOf}
 
--- what a step that goes past an entry says of its decode
+-- what going past an entry says of its decode
 pub record Went (at : ℕ) (st : State) (d : Decoded) (place : ℕ) (after : State) : Type 0 where
   pub e : Entry
   pub decodes : d ≡ decoded e
@@ -31,7 +31,7 @@ pub went : (at : ℕ) (st : State) (d : Decoded) (place : ℕ) (after : State) �
 went at st (decoded e) place after h = record { e = e; decodes = refl; to = cc; keeps = cc }
 went at st (failed n) place after h = let o : _≡_ {A = ℕ} 0 1 = cc in absurd (omega arith)
 
--- a step that refuses ends the walk with its entry's number
+-- an entry that is refused ends the walk with its number
 pub halts :
     (at : ℕ) (st : State) (d : Decoded) (x : Decoding) (n : ℕ) (r : Entry → Walked)
     → x ≡ decodingOf at st d

@@ -1,5 +1,5 @@
 -- The rows of the code are those of document 01's table, at every ID: one test, computed for each ID that the table names and for the others.
--- And the bounds of what the table says.
+-- And the bounds of what the table says, and the IDs that have no values and no step.
 use mathlib.Core.Path.{_≡_, refl, sym}
 use mathlib.Core.Bool.{Bool, true, false, _&&_, _||_, not, Bool·beq}
 use mathlib.Core.List.{List}
@@ -14,7 +14,7 @@ use Rattle.rules.specs.Place.{partsOf, widthOf}
 use Rattle.rules.proofs.Basics.Tests.{and₂, and₃, and₄, and₅, is-false, or-right}
 use Rattle.rules.proofs.Table.Rows.{looked-up}
 use Rattle.rules.proofs.Basics.Ids.{every-id}
-use Rattle.descriptor.specs.Rows.{classes, classOf, rowAt, placeNumber, stepPlace, noFields, fieldsOf}
+use Rattle.descriptor.specs.Rows.{classes, classOf, rowAt, shapeAt, placeNumber, stepPlace, numberValues, valuesOf}
 use Rattle.descriptor.specs.Find.{lowIn, highIn, hasCodes}
 use Rattle.descriptor.specs.EntryLines.{below, above}
 
@@ -59,8 +59,8 @@ pub record Row (id : ℕ) : Type 0 where
   pub flags-room : 0 < cell id 3 → 4 ≤ cell id 0
   pub step-room : 0 < stepPlace id → stepPlace id < cell id 0
 
-abbrev rowTest : ℕ → TableRow → ℕ → List ℕ → Bool
-rowTest id r step l =
+abbrev rowTest : TableRow → ℕ → List ℕ → Bool
+rowTest r step l =
     eqb (getD l 0 0) (r .least)
     && (eqb (getD l 1 0) (r .needed)
     && (eqb (getD l 2 0) (sideNumber (r .side))
@@ -71,10 +71,10 @@ rowTest id r step l =
     && (only (ltb 0 (getD l 3 0)) (leb 4 (getD l 0 0))
     && only (ltb 0 step) (ltb step (getD l 0 0)))))))))
 
-row-tested : (id : ℕ) → T (rowTest id (rowOf id) (stepPlace id) (rowAt id))
+row-tested : (id : ℕ) → T (rowTest (rowOf id) (stepPlace id) (rowAt id))
 unfolding rowOf classOf stepPlace
 row-tested =
-    every-id (λ id. rowTest id (rowOf id) (stepPlace id) (rowAt id)) tt
+    every-id (λ id. rowTest (rowOf id) (stepPlace id) (rowAt id)) tt
     λ id l. rw (List·getD-eq-default classes 0 {n = id} l, List·getD-eq-default tableRows (space both) {n = id} l) tt
 
 pub row : (id : ℕ) → Row id
@@ -93,6 +93,21 @@ row id =
       flags-room = λ l. leb→le _ _ (only-then (ltb 0 (cell id 3)) _ t₈ (lt→ltb _ _ l));
       step-room = λ l. ltb→lt _ _ (only-then (ltb 0 (stepPlace id)) _ t₉ (lt→ltb _ _ l));
     }
+
+-- parts and bits a lane
+abbrev shapeTest : TableRow → List ℕ → Bool
+shapeTest r l = eqb (getD l 0 0) (r .parts) && eqb (getD l 1 0) (r .width)
+
+shape-tested : (id : ℕ) → T (shapeTest (rowOf id) (shapeAt id))
+unfolding rowOf classOf
+shape-tested =
+    every-id (λ id. shapeTest (rowOf id) (shapeAt id)) tt
+    λ id l. rw (List·getD-eq-default classes 0 {n = id} l, List·getD-eq-default tableRows (space both) {n = id} l) tt
+
+pub shape : (id : ℕ) → (getD (shapeAt id) 0 0 ≡ rowOf id .parts) × (getD (shapeAt id) 1 0 ≡ rowOf id .width)
+shape id =
+    let (p, w) = and₂ (eqb (getD (shapeAt id) 0 0) (rowOf id .parts)) (eqb (getD (shapeAt id) 1 0) (rowOf id .width)) (shape-tested id) in
+    (eqb→eq _ _ p, eqb→eq _ _ w)
 
 -- equal numbers
 abbrev pub eqZ : ℤ → ℤ → Bool
@@ -158,7 +173,7 @@ step-tested =
 pub no-step : (id : ℕ) → (id ≡ 0x12 → ⊥) → 0 ≡ stepPlace id
 no-step id h = sym (eqb→eq _ _ (only-then (not (eqb id 0x12)) _ (step-tested id) (rw (ne-eqb id 0x12 h) tt)))
 
--- an ID that no arm of `fields_of` names has no fields
+-- an ID that no arm of `values_of` names has no values
 abbrev unnamed : ℕ → Bool
 unnamed id =
     not (eqb id 0x02)
@@ -175,12 +190,9 @@ unnamed id =
 
 abbrev empty : TableRow → Bool
 empty r =
-    not (r .flags)
-    && (eqb (r .parts) 0
-    && (eqb (r .width) 0
-    && (not (r .signed)
+    not (r .signed)
     && (eqZ (lowIn (r .values)) (pos 0)
-    && (eqZ (highIn (r .values)) (pos 0) && (eqb (placeNumber (r .codesAt)) 0 && not (hasCodes (r .codesAt))))))))
+    && (eqZ (highIn (r .values)) (pos 0) && (eqb (placeNumber (r .codesAt)) 0 && not (hasCodes (r .codesAt)))))
 
 empty-tested : (id : ℕ) → T (only (unnamed id) (empty (rowOf id)))
 unfolding rowOf
@@ -188,7 +200,7 @@ empty-tested =
     every-id (λ id. only (unnamed id) (empty (rowOf id))) tt
     λ id l. rw (List·getD-eq-default tableRows (space both) {n = id} l) (or-right (not (unnamed id)) true tt)
 
-pub no-fields :
+pub no-values :
     (id : ℕ)
     → (id ≡ 0x02 → ⊥)
     → (id ≡ 0x03 → ⊥)
@@ -201,22 +213,18 @@ pub no-fields :
     → (id ≡ 0x10 → ⊥)
     → (id ≡ 0x11 → ⊥)
     → (id ≡ 0x12 → ⊥)
-    → noFields ≡ fieldsOf id
-unfolding fieldsOf
-no-fields id h2 h3 h4 h5 h6 h7 h8 h15 h16 h17 h18 =
+    → numberValues false (pos 0) (pos 0) ≡ valuesOf id
+unfolding valuesOf
+no-values id h2 h3 h4 h5 h6 h7 h8 h15 h16 h17 h18 =
     let r : TableRow = rowOf id in
     let t = only-then (unnamed id) _ (empty-tested id) (rw (ne-eqb id 0x02 h2, ne-eqb id 0x03 h3, ne-eqb id 0x04 h4, ne-eqb id 0x05 h5, ne-eqb id 0x06 h6, ne-eqb id 0x07 h7, ne-eqb id 0x08 h8, ne-eqb id 0x0F h15, ne-eqb id 0x10 h16, ne-eqb id 0x11 h17, ne-eqb id 0x12 h18) tt) in
-    let (t₀, t₁, t₂, t₃, more) = and₅ (not (r .flags)) (eqb (r .parts) 0) (eqb (r .width) 0) (not (r .signed)) _ t in
-    let (t₄, t₅, t₆, t₇) = and₄ (eqZ (lowIn (r .values)) (pos 0)) (eqZ (highIn (r .values)) (pos 0)) (eqb (placeNumber (r .codesAt)) 0) (not (hasCodes (r .codesAt))) more in
+    let (t₁, t₂, t₃, t₄, t₅) = and₅ (not (r .signed)) (eqZ (lowIn (r .values)) (pos 0)) (eqZ (highIn (r .values)) (pos 0)) (eqb (placeNumber (r .codesAt)) 0) (not (hasCodes (r .codesAt))) t in
     rw (
-      is-false (r .flags) t₀,
-      eqb→eq (r .parts) 0 t₁,
-      eqb→eq (r .width) 0 t₂,
-      is-false (r .signed) t₃,
-      eqZ→eq (lowIn (r .values)) (pos 0) t₄,
-      eqZ→eq (highIn (r .values)) (pos 0) t₅,
-      eqb→eq (placeNumber (r .codesAt)) 0 t₆,
-      is-false (hasCodes (r .codesAt)) t₇,
+      is-false (r .signed) t₁,
+      eqZ→eq (lowIn (r .values)) (pos 0) t₂,
+      eqZ→eq (highIn (r .values)) (pos 0) t₃,
+      eqb→eq (placeNumber (r .codesAt)) 0 t₄,
+      is-false (hasCodes (r .codesAt)) t₅,
     )
     refl
 

@@ -1,4 +1,4 @@
--- The reading of an entry: what is read by the fields of its ID is what document 01's table says of it.
+-- The reading of an entry: what is read by its ID is what document 01's table says of it.
 use mathlib.Core.Path.{_≡_, refl}
 use mathlib.Core.Bool.{Bool, cond}
 use mathlib.Core.List.{List}
@@ -8,15 +8,17 @@ use borrow.Author.Tests.{lt-ltb}
 use lib.Bits.{bitAnd}
 use lib.IntN.{ℤ}
 use lib.Dec.{ltb}
+use lib.ListN.{getD}
 use Rattle.rules.specs.Parameter.{rowOf, Position, absent, after}
-use Rattle.rules.specs.Descriptor.{byteAt, mediaSide, codesOf, entryAt}
+use Rattle.rules.specs.Descriptor.{byteAt, codesOf, entryAt}
 use Rattle.rules.specs.Place.{partsOf, widthOf, signedOf}
 use Rattle.descriptor.specs.declared.Named.{Named}
-use Rattle.descriptor.specs.declared.table.Fields.{Fields}
-use Rattle.descriptor.specs.Rows.{placeNumber, stepPlace, fieldsOf}
+use Rattle.descriptor.specs.declared.table.Values.{Values}
+use Rattle.descriptor.specs.Rows.{shapeAt, placeNumber, stepPlace, valuesOf}
 use Rattle.descriptor.specs.Decode.{stepBy}
 use Rattle.descriptor.specs.Wide.{codesBy}
 use Rattle.descriptor.specs.Find.{codeMask, hasCodes, namedOf}
+use Rattle.descriptor.proofs.TableRows.{shape}
 use Rattle.descriptor.proofs.Chain.{step-by}
 
 -- whether an ID has a code mask, by the mask's place
@@ -42,24 +44,23 @@ named-entry :
     (record {
       ro = inRO;
       id = id;
-      media = mediaSide (fieldsOf id .flags) (byteAt s (start + a + 3));
       offset = offset;
-      parts = fieldsOf id .parts;
-      width = fieldsOf id .width;
-      signed = fieldsOf id .signed;
-      low = fieldsOf id .low;
-      high = fieldsOf id .high;
-      coded = ltb 0 (fieldsOf id .place);
-      codes = codesBy (fieldsOf id .place) (fieldsOf id .listed) s (start + a);
+      parts = getD (shapeAt id) 0 0;
+      width = getD (shapeAt id) 1 0;
+      signed = valuesOf id .signed;
+      low = valuesOf id .low;
+      high = valuesOf id .high;
+      coded = ltb 0 (valuesOf id .place);
+      codes = codesBy (valuesOf id .place) (valuesOf id .listed) s (start + a);
       step = stepBy (stepPlace id) s (start + a);
     })
     (namedOf inRO (entryAt a s start offset))
-unfolding namedOf partsOf widthOf signedOf fieldsOf stepPlace
+unfolding namedOf partsOf widthOf signedOf valuesOf stepPlace
 named-entry inRO a s start offset =
     let id : ℕ = byteAt s start in
-    let q : start + a + 3 ≡ start + 3 + a = omega arith in
     rw (
-      q,
+      shape id .0,
+      shape id .1,
       place-codes (rowOf id .codesAt),
       codes-by (rowOf id .codesAt) (codeMask (rowOf id .values)) s start a,
       step-by (rowOf id .stepAt) s start a,
@@ -68,28 +69,27 @@ named-entry inRO a s start offset =
 
 -- the same from what was read
 pub named-read :
-    (inRO : Bool) (a : ℕ) (s : List ℕ) (start offset id : ℕ) (f : Fields) (media : Bool) (low high : ℤ) (codes step : ℕ)
+    (inRO : Bool) (a : ℕ) (s : List ℕ) (start offset id : ℕ) (l : List ℕ) (v : Values) (low high : ℤ) (codes step : ℕ)
     → id ≡ byteAt s start
-    → f ≡ fieldsOf id
-    → media ≡ mediaSide (f .flags) (byteAt s (start + a + 3))
-    → low ≡ f .low
-    → high ≡ f .high
-    → codes ≡ codesBy (f .place) (f .listed) s (start + a)
+    → l ≡ shapeAt id
+    → v ≡ valuesOf id
+    → low ≡ v .low
+    → high ≡ v .high
+    → codes ≡ codesBy (v .place) (v .listed) s (start + a)
     → step ≡ stepBy (stepPlace id) s (start + a)
     → _≡_ {A = Named}
     (record {
       ro = inRO;
       id = id;
-      media = media;
       offset = offset;
-      parts = f .parts;
-      width = f .width;
-      signed = f .signed;
+      parts = getD l 0 0;
+      width = getD l 1 0;
+      signed = v .signed;
       low = low;
       high = high;
-      coded = ltb 0 (f .place);
+      coded = ltb 0 (v .place);
       codes = codes;
       step = step;
     })
     (namedOf inRO (entryAt a s start offset))
-named-read inRO a s start offset id f media low high codes step e₁ e₂ e₃ e₄ e₅ e₆ e₇ = rw (e₃, e₆, e₇, e₄, e₅, e₂, e₁) (named-entry inRO a s start offset)
+named-read inRO a s start offset id l v low high codes step e₁ e₂ e₃ e₄ e₅ e₆ e₇ = rw (e₆, e₇, e₄, e₅, e₂, e₃, e₁) (named-entry inRO a s start offset)

@@ -26,7 +26,7 @@ coverIndex (e ∷ l) k = cond (spans e k) 0 (suc (coverIndex l k))
 
 -- the entry of an index, with its string and number, and where its fields lie
 abbrev pub coveredBy : Map → ℕ → Covered
-coveredBy m n = cond (ltb n (length (m .entries))) (by (not (isRW m n)) n (entry m n .offset) (partsOf (entry m n)) (widthOf (entry m n))) noEntry
+coveredBy m n = cond (ltb n (length (m .entries))) (by n (entry m n .offset) (partsOf (entry m n)) (widthOf (entry m n)) (not (isRW m n))) noEntry
 
 unfoldable pub coverIn : Map → ℕ → Covered
 coverIn m k = coveredBy m (coverIndex (m .entries) k)

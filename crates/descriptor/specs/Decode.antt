@@ -1,4 +1,4 @@
--- The step of a walk, in terms of the rules' decode of one entry.
+-- One entry of a walk, in terms of the rules' decode of it.
 use mathlib.Core.Path.{_≡_}
 use mathlib.Core.Bool.{Bool, true, false, _&&_, not, cond}
 use mathlib.Core.List.{List}
@@ -32,7 +32,7 @@ standsBy side false = eqb (side % 2) 1
 abbrev pub lateBy : ℕ → Bool → Bool → Bool
 lateBy id media passed = leb 2 id && (leb id 8 && (not media && passed))
 
--- a place of a string at which a step is made
+-- a place of a string at which an entry is decoded
 pub record Walking (table : List ℕ) (rowTable : List (List ℕ)) (a : ℕ) (s : List ℕ) (at : ℕ) (st : State) : Type 0 where
   pub classes-is : table ≡ classes
   pub table-is : rowTable ≡ rows

@@ -48,7 +48,6 @@ namedOf inRO e =
     record {
       ro = inRO;
       id = e .id;
-      media = e .media;
       offset = e .offset;
       parts = partsOf e;
       width = widthOf e;

@@ -1,4 +1,4 @@
--- What the functions of this crate mean beyond the rules: the rows as they stand in the code, the step of a walk, and a pass over a string.
+-- What the functions of this crate mean beyond the rules: the rows as they stand in the code, one entry of a walk, and a pass over a string.
 pub mod Rows
 pub mod Decode
 pub mod Walks

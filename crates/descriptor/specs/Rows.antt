@@ -1,11 +1,12 @@
--- The constant rows as lists, and what the fields of an ID are by document 01's table.
-use mathlib.Core.Bool.{Bool, true, false, cond}
+-- The constant rows as lists, and what the fields of an ID hold by document 01's table.
+use mathlib.Core.Path.{_≡_}
+use mathlib.Core.Bool.{Bool, false, cond}
 use mathlib.Core.List.{List, [], _∷_}
 use Prim.Native.Nat.{ℕ, _+_}
 use lib.IntN.{ℤ, pos}
 use lib.ListN.{getD}
 use Rattle.rules.specs.Parameter.{rowOf, Position, absent, after}
-use Rattle.descriptor.specs.declared.table.Fields.{Fields}
+use Rattle.descriptor.specs.declared.table.Values.{Values}
 use Rattle.descriptor.specs.Find.{lowIn, highIn, codeMask, hasCodes}
 
 abbrev pub classes : List ℕ
@@ -26,13 +27,36 @@ rows =
     ∷ (6 ∷ 8 ∷ 2 ∷ 1 ∷ [])
     ∷ []
 
+-- parts, bits a lane
+abbrev pub shapes : List (List ℕ)
+shapes =
+    (0 ∷ 0 ∷ [])
+    ∷ (0 ∷ 0 ∷ [])
+    ∷ (1 ∷ 1 ∷ [])
+    ∷ (1 ∷ 2 ∷ [])
+    ∷ (1 ∷ 4 ∷ [])
+    ∷ (2 ∷ 4 ∷ [])
+    ∷ (1 ∷ 4 ∷ [])
+    ∷ (1 ∷ 8 ∷ [])
+    ∷ (2 ∷ 8 ∷ [])
+    ∷ (1 ∷ 8 ∷ [])
+    ∷ []
+
+-- lent constants
+pub record Shapes (x : List ℕ) (y : List (List ℕ)) : Type 0 where
+  pub classes-are : x ≡ classes
+  pub shapes-are : y ≡ shapes
+
 -- the class of an ID
 unfoldable pub classOf : ℕ → ℕ
 classOf id = getD classes id 0
 
--- the row of an ID
+-- the rows of an ID
 abbrev pub rowAt : ℕ → List ℕ
 rowAt id = getD rows (classOf id) []
+
+abbrev pub shapeAt : ℕ → List ℕ
+shapeAt id = getD shapes (classOf id) []
 
 -- an extra's place in an entry (+ A): PropertyFlags stand at 3
 abbrev pub placeNumber : Position → ℕ
@@ -42,22 +66,17 @@ placeNumber (after n) = 4 + n
 unfoldable pub stepPlace : ℕ → ℕ
 stepPlace id = placeNumber (rowOf id .stepAt)
 
--- what the fields of an ID are
-abbrev pub numberFields : ℕ → ℕ → Bool → ℤ → ℤ → Fields
-numberFields p w s low high = record { flags = true; parts = p; width = w; signed = s; low = low; high = high; place = 0; listed = 0 }
+-- every number of a range; codes that are in a mask
+abbrev pub numberValues : Bool → ℤ → ℤ → Values
+numberValues s low high = record { signed = s; low = low; high = high; place = 0; listed = 0 }
 
-abbrev pub codeFields : ℕ → ℕ → ℕ → Fields
-codeFields p at all = record { flags = true; parts = p; width = 4; signed = false; low = pos 0; high = pos 15; place = at; listed = all }
+abbrev pub codeValues : ℕ → ℕ → Values
+codeValues at all = record { signed = false; low = pos 0; high = pos 15; place = at; listed = all }
 
-abbrev pub noFields : Fields
-noFields = record { flags = false; parts = 0; width = 0; signed = false; low = pos 0; high = pos 0; place = 0; listed = 0 }
-
-unfoldable pub fieldsOf : ℕ → Fields
-fieldsOf id =
+-- what the fields of an ID hold, by the table
+unfoldable pub valuesOf : ℕ → Values
+valuesOf id =
     record {
-      flags = rowOf id .flags;
-      parts = rowOf id .parts;
-      width = rowOf id .width;
       signed = rowOf id .signed;
       low = lowIn (rowOf id .values);
       high = highIn (rowOf id .values);

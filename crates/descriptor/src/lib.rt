@@ -15,7 +15,7 @@ ghost use Rattle.descriptor.specs.Cover.{coverOf};
 
 pub mod columns; // the columns of an entry's line
 mod table; // document 01's table
-mod rows; // the row of an ID
+mod rows; // the class of an ID
 mod state; // what a walk keeps
 mod decode; // one entry: the checks 1 to 7
 mod walk; // one string
@@ -34,6 +34,7 @@ use crate::state::start;
 use crate::table::CLASSES;
 use crate::table::LEAST;
 use crate::table::ROWS;
+use crate::table::SHAPES;
 use crate::text::put_refused;
 use crate::text::put_strings;
 use crate::walk::in_limits;
@@ -163,13 +164,12 @@ pub fn entry_bytes<'a>(count: usize, rw: &'a [u8], ro: &'a [u8], entry: usize) -
     &rw[start..end]
 }
 
-// What a call needs of the entry that it names: whether it stands in the RO string, its ID and side, where its fields lie, whether their
+// What a call needs of the entry that it names: whether it stands in the RO string, its ID, where its fields lie, whether their
 // numbers are signed, the accepted numbers, from low to high and, where there is a code mask, those with a bit in `codes`, and the
 // step.
 pub struct Named {
     pub ro: bool,
     pub id: usize,
-    pub media: bool,
     pub offset: usize,
     pub parts: usize,
     pub width: usize,
@@ -186,7 +186,7 @@ pub enum Found {
     Refused(Refusal),
 }
 
-// 10: a part that the entry hasn't, or no lane.
+// 10: a part that the entry doesn't have, or a lane that doesn't exist.
 fn held(f: Named, part: usize, lane: usize) -> Found
     ensures { λ r. ⌜ r ≡ heldIn f part lane ⌝ }
 {
@@ -225,11 +225,13 @@ pub fn find(
             offset,
         } => {
             let a = mask_bytes(count);
+            let classes = CLASSES;
+            let shapes = SHAPES;
             if in_ro {
-                let f = named_at(true, a, ro, start, offset);
+                let f = named_at(&classes, &shapes, true, a, ro, start, offset);
                 return held(f, part, lane);
             }
-            let f = named_at(false, a, rw, start, offset);
+            let f = named_at(&classes, &shapes, false, a, rw, start, offset);
             held(f, part, lane)
         }
     }
@@ -255,14 +257,15 @@ pub fn entries(count: usize, rw: &[u8], ro: &[u8], list: &mut [[u16; 9]; 30]) ->
     loaded
 }
 
-// The entry whose space covers a byte of a set: the string that it stands in, its number, and where its fields lie.
+// The entry whose space covers a byte of a set: its number, where its fields lie, and the string that it stands in (last: with the
+// flag first the compiler builds the answer twice).
 pub enum Covered {
     By {
-        ro: bool,
         number: usize,
         offset: usize,
         parts: usize,
         width: usize,
+        ro: bool,
     },
     Nothing,
     Refused(Refusal),
@@ -293,26 +296,28 @@ fn cover_within(count: usize, rw: &[u8], ro: &[u8], offset: usize) -> Covered
             active_length: _,
         } => {
             let a = mask_bytes(count);
+            let classes = CLASSES;
+            let shapes = SHAPES;
             let first = look(a, rw, 0, rw_count, offset);
             if first.number < rw_count {
-                let f = named_at(false, a, rw, first.at, first.sum);
+                let f = named_at(&classes, &shapes, false, a, rw, first.at, first.sum);
                 return Covered::By {
-                    ro: false,
                     number: first.number,
                     offset: f.offset,
                     parts: f.parts,
                     width: f.width,
+                    ro: false,
                 };
             }
             let last = look(a, ro, staged_length, ro_count, offset);
             if last.number < ro_count {
-                let f = named_at(true, a, ro, last.at, last.sum);
+                let f = named_at(&classes, &shapes, true, a, ro, last.at, last.sum);
                 return Covered::By {
-                    ro: true,
                     number: rw_count + last.number,
                     offset: f.offset,
                     parts: f.parts,
                     width: f.width,
+                    ro: true,
                 };
             }
             Covered::Nothing

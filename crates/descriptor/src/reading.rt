@@ -1,7 +1,8 @@
 // The reading of an entry: what a call needs of the one that it names, and a line for each RW entry. The walks read less.
 ghost use mathlib.Core.Path.{_≡_};
 ghost use Prim.Native.Nat.{_≤_, _<_};
-ghost use Rattle.rules.specs.Descriptor.{byteAt, mediaSide, highFirst, entryAt};
+ghost use Rattle.rules.specs.Descriptor.{byteAt, highFirst, entryAt};
+ghost use Rattle.descriptor.specs.Rows.{Shapes};
 ghost use Rattle.descriptor.specs.Decode.{stepBy};
 ghost use Rattle.descriptor.specs.Wide.{codesBy};
 ghost use Rattle.descriptor.specs.Find.{namedOf};
@@ -9,10 +10,15 @@ ghost use Rattle.descriptor.specs.Marks.{OnEntry, markAfter, Passable};
 ghost use Rattle.descriptor.specs.EntryLines.{Short, lineBy, lineAt, lines};
 use crate::Named;
 use crate::decode::byte_at;
+use crate::rows::class_of;
 use crate::search::Mark;
 use crate::search::past;
-use crate::table::fields_of;
+use crate::table::CLASSES;
+use crate::table::PARTS;
+use crate::table::SHAPES;
+use crate::table::WIDTH;
 use crate::table::step_place;
+use crate::table::values_of;
 
 // A byte of a string as a number, 0 past its end.
 fn byte_from(s: &[u8], at: usize) -> usize
@@ -54,36 +60,35 @@ fn codes_at(place: usize, listed: usize, s: &[u8], from: usize) -> usize
     0
 }
 
-// Whether an entry with its PropertyFlags at a place is media side, where they are read; 0 past the end of a string.
-fn media_from(read: bool, s: &[u8], at: usize) -> bool
-    ensures { λ r. ⌜ r ≡ mediaSide read (byteAt (now (s .entry)) at) ⌝ }
-{
-    if read {
-        return byte_at(s, at) % 2 == 1;
-    }
-    false
-}
-
-// What a call needs of the entry at a place of a string.
-pub fn named_at(in_ro: bool, a: usize, s: &[u8], start: usize, offset: usize) -> Named
+// What a call needs of the entry at a place of a string. With the rows lent it is small enough to be inlined for both strings.
+pub fn named_at(
+    classes: &[u8; 19],
+    shapes: &[[u8; 2]; 10],
+    in_ro: bool,
+    a: usize,
+    s: &[u8],
+    start: usize,
+    offset: usize,
+) -> Named
+    requires { ⌜ Shapes (now classes) (now shapes) ⌝ }
     requires { ⌜ (a ≤ 2) × (start ≤ 120) ⌝ }
     ensures { λ r. ⌜ r ≡ namedOf in_ro (entryAt a (now (s .entry)) start offset) ⌝ }
 {
     let id = byte_at(s, start);
-    let fields = fields_of(id);
+    let class = class_of(classes, id);
+    let values = values_of(id);
     let from = start + a;
     Named {
         ro: in_ro,
         id: id as usize,
-        media: media_from(fields.flags, s, from + 3),
         offset,
-        parts: fields.parts,
-        width: fields.width,
-        signed: fields.signed,
-        low: fields.low,
-        high: fields.high,
-        coded: 0 < fields.place,
-        codes: codes_at(fields.place, fields.listed, s, from),
+        parts: shapes[class][PARTS] as usize,
+        width: shapes[class][WIDTH] as usize,
+        signed: values.signed,
+        low: values.low,
+        high: values.high,
+        coded: 0 < values.place,
+        codes: codes_at(values.place, values.listed, s, from),
         step: step_at(step_place(id), s, from) as usize,
     }
 }
@@ -118,11 +123,12 @@ fn line_of(mask: usize, f: Named) -> [u16; 9]
 }
 
 // The line of the entry at a mark of the RW string.
-fn line_at(a: usize, s: &[u8], mark: Mark) -> [u16; 9]
+fn line_at(classes: &[u8; 19], shapes: &[[u8; 2]; 10], a: usize, s: &[u8], mark: Mark) -> [u16; 9]
+    requires { ⌜ Shapes (now classes) (now shapes) ⌝ }
     requires { ⌜ (1 ≤ a) × (a ≤ 2) × OnEntry a (now s) mark ⌝ }
     ensures { λ r. ⌜ r ≡ lineAt a (now (s .entry)) mark ⌝ }
 {
-    let f = named_at(false, a, s, mark.at, mark.sum);
+    let f = named_at(classes, shapes, false, a, s, mark.at, mark.sum);
     line_of(mask_at(a, s, mark.at + 2), f)
 }
 
@@ -131,10 +137,12 @@ pub fn lines_at(a: usize, s: &[u8], n: usize, list: &mut [[u16; 9]; 30])
     requires { ⌜ (1 ≤ a) × (a ≤ 2) × (n ≤ 30) × Passable a (now s) 0 n ⌝ }
     ensures { λ _. ⌜ now (list .exit) ≡ lines (λ i. lineAt a (now (s .entry)) (markAfter a (now (s .entry)) 0 i)) n (now (list .entry)) ⌝ }
 {
+    let classes = CLASSES;
+    let shapes = SHAPES;
     let mut mark = Mark { at: 0, sum: 0 };
     let mut i = 0;
     while i < n {
-        list[i] = line_at(a, s, mark);
+        list[i] = line_at(&classes, &shapes, a, s, mark);
         mark = past(a, s, mark);
         i += 1;
     }

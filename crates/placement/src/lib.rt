@@ -68,11 +68,11 @@ pub fn owner(count: usize, rw: &[u8], ro: &[u8], set: usize, offset: usize, bit:
         Covered::Refused(r) => Owned::Refused(r),
         Covered::Nothing => Owned::Refused(Refusal::Plain(10)),
         Covered::By {
-            ro: in_ro,
             number,
             offset: start,
             parts,
             width,
+            ro: in_ro,
         } => {
             if !((set < 3) & (!((set < 2) & in_ro) & (bit < 8))) {
                 return Owned::Refused(Refusal::Plain(10));

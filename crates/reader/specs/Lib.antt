@@ -1,2 +1,2 @@
--- The reader's step in terms of the rules.
+-- What a reader takes, in terms of the rules.
 pub mod Take

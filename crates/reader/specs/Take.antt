@@ -26,7 +26,7 @@ takenBy count r = takeOf count (now (r .src)) (r .at)
 abbrev pub movedBy : ℕ → Reader → Reader
 movedBy count r = record { src = r .src; at = movedTo (takenBy count r) (r .at) }
 
--- what it gives in a number of steps
+-- what it takes, so many times
 unfoldable pub takesOf : ℕ → ℕ → Reader → List Taken
 takesOf count zero r = []
 takesOf count (suc n) r = takenBy count r ∷ takesOf count n (movedBy count r)

@@ -1,6 +1,6 @@
 -- The demands of document 01 and where each is proved. Open this file first; the statements are in specs/Demands.antt.
 use Rattle.rules.specs.Demands.{Demand1, Demand2, Demand3, Demand3-after-fresh, Twelve}
-use Rattle.rules.proofs.Refusals.Whole.{refusals}
+use Rattle.rules.proofs.Refusals.AllRefusals.{refusals}
 use Rattle.rules.proofs.Place.PlaceOwner.{both-ways}
 use Rattle.rules.proofs.Lists.Lists.{lists-agree}
 use Rattle.rules.proofs.Lists.Fresh.{lists-agree-after-fresh}

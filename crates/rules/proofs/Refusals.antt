@@ -11,4 +11,4 @@ pub mod OrderRules
 pub mod ReaderRules
 pub mod Refused
 pub mod BankKept
-pub mod Whole
+pub mod AllRefusals

@@ -58,7 +58,7 @@ flatAnswer yes = record { refusal = 0; at = 0; number = pos 0 }
 flatAnswer (theNumber n) = record { refusal = 0; at = 0; number = n }
 flatAnswer (refused r) = record { refusal = reasonOf r .number; at = reasonOf r .at; number = pos 0 }
 
--- with the position after the step
+-- with the position after it
 abbrev pub flatTaken : Taken → ℕ → FlatTaken
 flatTaken (taken s l) p = record { refusal = 0; end = 0; start = s; length = l; position = p }
 flatTaken noMore p = record { refusal = 0; end = 1; start = 0; length = 0; position = p }

@@ -1,5 +1,5 @@
 -- `cover_within` meets its contract.
-use mathlib.Core.Path.{_≡_, sym, _∙_}
+use mathlib.Core.Path.{_≡_, refl, sym, _∙_}
 use mathlib.Core.Bool.{true, false}
 use Prim.Native.Nat.{_+_, _≤_}
 use native.Mathlib.Omega.{arith}
@@ -43,7 +43,7 @@ in-first : (c : tie.Then1) →
     let g = k .before .before .before .before .before .before .args in
     let h = c .before .before .look .result in
     let e = entryAt (maskBytes (g .count)) (now (g .rw)) (h .at) (h .sum) in
-    (h .at ≤ 120) × (by false (h .number) (h .sum) (partsOf e) (widthOf e) ≡ coverOf (g .count) (now (g .rw)) (now (g .ro)) (g .offset)) × (h .number ≤ 240)
+    (h .at ≤ 120) × (by (h .number) (h .sum) (partsOf e) (widthOf e) false ≡ coverOf (g .count) (now (g .rw)) (now (g .ro)) (g .offset)) × (h .number ≤ 240)
 in-first c =
     let k = c .before .before .before .before in
     let g = k .before .before .before .before .before .before .args in
@@ -55,7 +55,7 @@ in-last : (c : tie.Then2) →
     let h = c .before .before .look2 .result in
     let e = entryAt (maskBytes (g .count)) (now (g .ro)) (h .at) (h .sum) in
     let n = k .before .loaded2 .given .0 .0 + h .number in
-    (h .at ≤ 120) × (by true n (h .sum) (partsOf e) (widthOf e) ≡ coverOf (g .count) (now (g .rw)) (now (g .ro)) (g .offset)) × (n ≤ 240)
+    (h .at ≤ 120) × (by n (h .sum) (partsOf e) (widthOf e) true ≡ coverOf (g .count) (now (g .rw)) (now (g .ro)) (g .offset)) × (n ≤ 240)
 in-last c =
     let k = c .before .before .before .before .before .before .before in
     let g = k .before .before .before .before .before .before .args in
@@ -80,11 +80,13 @@ look-requires c κs =
     (rw (c .mask-bytes .ensures .0) (covers-seeks (g .count) (now (g .rw)) (now (g .ro)) (g .offset) _ _ _ _ (loads k) false), omega arith)
 
 named-at-requires : tie.Need-named-at-requires
-named-at-requires c κs = (c .before .before .before .mask-bytes .ensures .2, in-first c .0)
+named-at-requires c κs =
+    let h = c .before .before in
+    (record { classes-are = refl; shapes-are = refl }, (h .before .before .before .mask-bytes .ensures .2, in-first h .0))
 
 returns : tie.Need-returns
 unfolding namedOf
-returns c = let h = c .before in rw (c .named-at .ensures, h .before .before .before .mask-bytes .ensures .0) (in-first h .1)
+returns c = let h = c .before .before .before in rw (c .named-at .ensures, h .before .before .before .mask-bytes .ensures .0) (in-first h .1)
 
 look-requires-2 : tie.Need-look-requires-2
 look-requires-2 c κs =
@@ -97,14 +99,16 @@ look-requires-2 c κs =
     )
 
 named-at-requires-2 : tie.Need-named-at-requires-2
-named-at-requires-2 c κs = (c .before .before .before .before .before .before .mask-bytes .ensures .2, in-last c .0)
+named-at-requires-2 c κs =
+    let h = c .before .before in
+    (record { classes-are = refl; shapes-are = refl }, (h .before .before .before .before .before .before .mask-bytes .ensures .2, in-last h .0))
 
-add-t17 : tie.Need-add-t17
-add-t17 c = omega (arith, in-last (c .before .before) .2)
+add-t35 : tie.Need-add-t35
+add-t35 c = omega (arith, in-last (c .before .before .before .before) .2)
 
 returns-2 : tie.Need-returns-2
 unfolding namedOf
-returns-2 c = let h = c .before .before in rw (c .before .named-at2 .ensures, h .before .before .before .before .before .before .mask-bytes .ensures .0) (in-last h .1)
+returns-2 c = let h = c .before .before .before .before in rw (c .before .named-at2 .ensures, h .before .before .before .before .before .before .mask-bytes .ensures .0) (in-last h .1)
 
 returns-3 : tie.Need-returns-3
 returns-3 c =
@@ -133,7 +137,7 @@ cover-within-spec =
     returns
     look-requires-2
     named-at-requires-2
-    add-t17
+    add-t35
     returns-2
     returns-3
     returns-4)

@@ -1,7 +1,7 @@
 -- `find` meets its contract.
 use borrow.Author.Needs.{needs}
 use borrow.Author.Tests.{not-true, not-false}
-use mathlib.Core.Path.{_≡_, sym, _∙_}
+use mathlib.Core.Path.{_≡_, refl, sym, _∙_}
 use mathlib.Core.Bool.{cond}
 use Prim.Native.Nat.{_≤_}
 use denote.Ref.{now}
@@ -51,8 +51,8 @@ mask-bytes-requires c κs = search needs
 
 named-at-requires : tie.Need-named-at-requires
 named-at-requires c κs =
-    let m = c .before in
-    (m .mask-bytes .ensures .2, reads (m .before) .1)
+    let m = c .before .before .before in
+    (record { classes-are = refl; shapes-are = refl }, (m .mask-bytes .ensures .2, reads (m .before) .1))
 
 held-requires : tie.Need-held-requires
 held-requires c κs = search needs
@@ -60,14 +60,14 @@ held-requires c κs = search needs
 returns-3 : tie.Need-returns-3
 returns-3 c =
     let n = c .before in
-    let t = n .before in
+    let t = n .before .before .before in
     let m = t .before in
     c .held .ensures ∙ rw (n .named-at .ensures, m .mask-bytes .ensures .0) (rw (t .if3 .taken) at (reads (m .before) .0))
 
 named-at-requires-2 : tie.Need-named-at-requires-2
 named-at-requires-2 c κs =
-    let m = c .before in
-    (m .mask-bytes .ensures .2, reads (m .before) .1)
+    let m = c .before .before .before in
+    (record { classes-are = refl; shapes-are = refl }, (m .mask-bytes .ensures .2, reads (m .before) .1))
 
 returns-4 : tie.Need-returns-4
 returns-4 c =
@@ -81,7 +81,7 @@ held-requires-2 c κs = search needs
 returns-5 : tie.Need-returns-5
 returns-5 c =
     let n = c .before in
-    let t = n .before in
+    let t = n .before .before .before in
     let m = t .before in
     c .held2 .ensures ∙ rw (n .named-at2 .ensures, m .mask-bytes .ensures .0) (rw (t .if3 .left) at (reads (m .before) .0))
 

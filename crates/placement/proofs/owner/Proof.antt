@@ -14,7 +14,7 @@ use Rattle.placement.proofs.owner.Tie as tie
 covering : (c : tie.After-known-told2) →
     let g = c .before .before .before .before .before .before .args in
     let x = c .before .covered2 .given .0 in
-    Covering (g .count) (now (g .rw)) (now (g .ro)) (g .offset) (x .0) (x .1 .0) (x .1 .1 .0) (x .1 .1 .1 .0) (x .1 .1 .1 .1 .0)
+    Covering (g .count) (now (g .rw)) (now (g .ro)) (g .offset) (x .1 .1 .1 .1 .0) (x .0) (x .1 .0) (x .1 .1 .0) (x .1 .1 .1 .0)
 covering c =
     let k = c .before .before .before in
     let g = k .before .before .before .args in
@@ -24,8 +24,8 @@ covering c =
 small : (c : tie.Else1) →
     let g = c .before .before .before .before .before .before .before .args in
     let x = c .before .before .covered2 .given .0 in
-    let o = x .1 .1 .0 in
-    (x .1 .1 .1 .0 < 16) × (x .1 .1 .1 .1 .0 < 16) × (o ≤ g .offset) × (g .offset - o ≤ 256) × (g .bit < 8)
+    let o = x .1 .0 in
+    (x .1 .1 .0 < 16) × (x .1 .1 .1 .0 < 16) × (o ≤ g .offset) × (g .offset - o ≤ 256) × (g .bit < 8)
 small c =
     let g = c .before .before .before .before .before .before .before .args in
     owns-small (g .count) (now (g .rw)) (now (g .ro)) (covering (c .before)) (g .set) (g .bit) (not-false _ (c .if1 .left))

@@ -24,7 +24,7 @@ use Rattle.rules.proofs.Table.Rows.{looked-up}
 
 -- a row's cells in 01's words
 
--- an extra after some bytes of indexes; of both at once there is no row
+-- an extra after some bytes of indexes; no row has both a code mask and a step
 abbrev indexed : ℕ → Extra → List Extra
 indexed zero x = x ∷ []
 indexed (suc n) x = index ∷ indexed n x
@@ -194,7 +194,7 @@ step-above zero s at =
     rw q (Iff·trans (lt-says 3 (byteAt s at)) (inl, ⊎-elim (λ h. h) (λ h. absurd h)))
 step-above (suc n) s at = let q : at + suc n ≡ at + 1 + n = omega arith in rw q (step-above n s (at + 1))
 
--- of both extras at once there is no row
+-- no row has both a code mask and a step
 abbrev oneExtra : Position → Position → Bool
 oneExtra absent y = true
 oneExtra (after n) y = noStep y

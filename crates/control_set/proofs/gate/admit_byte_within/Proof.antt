@@ -23,7 +23,7 @@ fine c = sym (c .before .limits .ensures) ∙ not-false _ (c .if1 .left)
 covering : (c : tie.After-known-told2) →
     let g = c .before .before .before .before .before .before .before .before .before .args in
     let x = c .before .covered2 .given .0 in
-    Covering (g .count) (now (g .rw)) (now (g .ro)) (g .offset) (x .0) (x .1 .0) (x .1 .1 .0) (x .1 .1 .1 .0) (x .1 .1 .1 .1 .0)
+    Covering (g .count) (now (g .rw)) (now (g .ro)) (g .offset) (x .1 .1 .1 .1 .0) (x .0) (x .1 .0) (x .1 .1 .0) (x .1 .1 .1 .0)
 covering c =
     let k = c .before .before .before in
     let g = k .before .before .before .before .before .before .args in
@@ -60,7 +60,7 @@ returns-3 c =
 small : (c : tie.Else3) →
     let x = c .before .before .covered2 .given .0 in
     let g = c .before .before .before .before .before .before .before .before .before .before .args in
-    (x .1 .1 .0 ≤ g .offset) × (g .offset < 256) × (x .1 .1 .1 .0 < 16) × (x .1 .1 .1 .1 .0 < 16)
+    (x .1 .0 ≤ g .offset) × (g .offset < 256) × (x .1 .1 .0 < 16) × (x .1 .1 .1 .0 < 16)
 small c =
     let t = c .before in
     let e = t .before .before .before .before in
@@ -73,8 +73,8 @@ sub-t26 c = small c .0
 mul-t27 : tie.Need-mul-t27
 mul-t27 c =
     let x = c .before .before .covered2 .given .0 in
-    let u : x .1 .1 .1 .0 ≤ 15 = omega (arith, small c) in
-    let v : x .1 .1 .1 .1 .0 ≤ 15 = omega (arith, small c) in
+    let u : x .1 .1 .0 ≤ 15 = omega (arith, small c) in
+    let v : x .1 .1 .1 .0 ≤ 15 = omega (arith, small c) in
     omega (arith, mul-le-mul u v)
 
 returns-4 : tie.Need-returns-4

@@ -21,7 +21,7 @@ line-of-requires : tie.Need-line-of-requires
 line-of-requires c κs =
     let n = c .before .before in
     let g = n .before .before .args in
-    let p = n .before .before .pre in
+    let p = n .before .before .pre .1 in
     (c .mask-at .ensures .1, rw (n .named-at .ensures) (named-short false (entryAt (g .a) (now (g .s)) (g .mark .at) (g .mark .sum)) (omega (arith, p .2 .space))))
 
 returns : tie.Need-returns

@@ -12,11 +12,11 @@ use Rattle.descriptor.proofs.reading.lines_at.Tie as tie
 
 -- so many entries are passed, and their lines are written
 abbrev Inv-loop : tie.InvT-loop
-Inv-loop a s n list₀ mark₀ i₀ list mark i =
+Inv-loop a s n list₀ classes shapes mark₀ i₀ list mark i =
     (i ≤ n) × (mark ≡ markAfter a s 0 i) × (list ≡ lines (λ k. lineAt a s (markAfter a s 0 k)) i list₀)
 
 abbrev μ-loop : tie.MeasureT-loop
-μ-loop a s n list₀ mark₀ i₀ list mark i = n - i
+μ-loop a s n list₀ classes shapes mark₀ i₀ list mark i = n - i
 
 loop-holds : tie.Need-loop-holds Inv-loop μ-loop
 unfolding markAfter lines
@@ -28,17 +28,18 @@ on c = let l = c .before in rw (l .loop .inv .1) (l .before .before .pre .3 (l .
 
 line-at-requires : tie.Need-line-at-requires Inv-loop μ-loop
 line-at-requires c κs =
-    let p = c .before .before .before .pre in
-    (p .0, p .1, on c)
+    let t = c .before .before in
+    let p = t .before .before .before .pre in
+    (record { classes-are = refl; shapes-are = refl }, (p .0, p .1, on t))
 
-mul-t9 : tie.Need-mul-t9 Inv-loop μ-loop
-mul-t9 c = let t = c .before in omega (arith, t .loop-test .taken, t .before .before .before .pre .2)
+mul-t25 : tie.Need-mul-t25 Inv-loop μ-loop
+mul-t25 c = let t = c .before .before .before in omega (arith, t .loop-test .taken, t .before .before .before .pre .2)
 
 element-set-from-list : tie.Need-element-set-from-list Inv-loop μ-loop
-element-set-from-list c = let t = c .before in omega (arith, t .loop-test .taken, t .before .before .before .pre .2)
+element-set-from-list c = let t = c .before .before .before in omega (arith, t .loop-test .taken, t .before .before .before .pre .2)
 
 past-requires : tie.Need-past-requires Inv-loop μ-loop
-past-requires c κs = on (c .before)
+past-requires c κs = on (c .before .before .before)
 
 add-i : tie.Need-add-i Inv-loop μ-loop
 add-i c = search needs
@@ -50,7 +51,7 @@ loop-again : tie.Need-loop-again Inv-loop μ-loop
 unfolding markAfter lines
 loop-again c =
     let f = c .before in
-    let t = f .before in
+    let t = f .before .before .before in
     let l = t .before in
     let g = l .before .before .args in
     let i = l .loop .inv in (
@@ -73,7 +74,7 @@ lines-at-spec =
     μ-loop
     loop-holds
     line-at-requires
-    mul-t9
+    mul-t25
     element-set-from-list
     past-requires
     add-i

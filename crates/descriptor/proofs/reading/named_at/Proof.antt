@@ -1,86 +1,126 @@
 -- `named_at` meets its contract.
 use borrow.Author.Needs.{needs}
-use mathlib.Core.Path.{_≡_}
+use mathlib.Core.Path.{_≡_, refl}
+use mathlib.Core.List.{[]}
 use Prim.Native.Nat.{_<_}
 use native.Mathlib.Omega.{arith}
+use lib.ListN.{getD}
 use mir.Syntax.{w64}
 use mir.Val.{toZ, ofZ}
 use denote.Ref.{now}
-use Rattle.descriptor.specs.Rows.{stepPlace, fieldsOf}
-use Rattle.descriptor.proofs.TableRows.{small}
+use Rattle.descriptor.specs.Rows.{shapeAt, stepPlace, valuesOf}
+use Rattle.descriptor.proofs.TableRows.{shape, small}
 use Rattle.descriptor.proofs.Wides.{named-read}
 use Rattle.descriptor.proofs.reading.named_at.Statement.{statement}
 use Rattle.descriptor.proofs.reading.named_at.Tie as tie
 
-mask-place : (c : tie.After-fields-of) → c .fields-of .result .place < 256
-unfolding fieldsOf
-mask-place c = rw (c .fields-of .ensures) (small (c .before .byte-at .result) .mask-place)
+-- what was read of the entry's ID
+shape-is : (c : tie.After-class-of) → getD (now (c .before .before .before .args .shapes)) (c .class-of .result) [] ≡ shapeAt (c .before .byte-at .result)
+shape-is c = rw (c .before .before .before .pre .0 .shapes-are, c .class-of .ensures .0) refl
+
+parts-small : (c : tie.After-class-of) → getD (getD (now (c .before .before .before .args .shapes)) (c .class-of .result) []) 0 0 < 16
+parts-small c = let id = c .before .byte-at .result in rw (shape-is c, shape id .0) (small id .few)
+
+width-small : (c : tie.After-class-of) → getD (getD (now (c .before .before .before .args .shapes)) (c .class-of .result) []) 1 0 < 16
+width-small c = let id = c .before .byte-at .result in rw (shape-is c, shape id .1) (small id .narrow)
+
+mask-place : (c : tie.After-values-of) → c .values-of .result .place < 256
+unfolding valuesOf
+mask-place c = rw (c .values-of .ensures) (small (c .before .before .byte-at .result) .mask-place)
 
 step-place : (c : tie.After-step-place) → c .step-place .result < 256
 unfolding stepPlace
-step-place c = rw (c .step-place .ensures) (small (c .before .before .before .before .before .byte-at .result) .step-place)
+step-place c = rw (c .step-place .ensures) (small (c .before .before .before .before .before .before .before .byte-at .result) .step-place)
 
 -- numbers, as the machine hands them on
-low : (c : tie.After-struct-told) → let f = c .before .before .before .before .before .before .fields-of .result in toZ w64 (ofZ w64 (f .low)) ≡ f .low
+low : (c : tie.After-struct-told) → let v = c .before .before .before .before .before .before .before .values-of .result in toZ w64 (ofZ w64 (v .low)) ≡ v .low
 low c = search needs
 
-high : (c : tie.After-struct-told) → let f = c .before .before .before .before .before .before .fields-of .result in toZ w64 (ofZ w64 (f .high)) ≡ f .high
+high : (c : tie.After-struct-told) → let v = c .before .before .before .before .before .before .before .values-of .result in toZ w64 (ofZ w64 (v .high)) ≡ v .high
 high c = search needs
 
 byte-at-requires : tie.Need-byte-at-requires
 byte-at-requires c κs = search needs
 
-fields-of-requires : tie.Need-fields-of-requires
-fields-of-requires c κs = search needs
+class-of-requires : tie.Need-class-of-requires
+class-of-requires c κs = c .before .before .pre .0 .classes-are
+
+values-of-requires : tie.Need-values-of-requires
+values-of-requires c κs = search needs
 
 add-from : tie.Need-add-from
 add-from c = search needs
 
-cast-t9 : tie.Need-cast-t9
-cast-t9 c = search needs
+cast-t12 : tie.Need-cast-t12
+cast-t12 c = search needs
 
-add-media-from : tie.Need-add-media-from
-add-media-from c = search needs
+mul-t13 : tie.Need-mul-t13
+mul-t13 c = omega (arith, c .before .class-of .ensures .1)
 
-media-from-requires : tie.Need-media-from-requires
-media-from-requires c κs = search needs
+index-1-t18 : tie.Need-index-1-t18
+index-1-t18 c = c .before .class-of .ensures .1
+
+index-2-t18 : tie.Need-index-2-t18
+index-2-t18 c = omega arith
+
+cast-t19 : tie.Need-cast-t19
+cast-t19 c = record { fits = omega (arith, parts-small (c .before .before)) }
+
+mul-t20 : tie.Need-mul-t20
+mul-t20 c = omega (arith, c .before .before .class-of .ensures .1)
+
+index-1-t25 : tie.Need-index-1-t25
+index-1-t25 c = c .before .before .class-of .ensures .1
+
+index-2-t25 : tie.Need-index-2-t25
+index-2-t25 c = omega arith
+
+cast-t26 : tie.Need-cast-t26
+cast-t26 c = record { fits = omega (arith, width-small (c .before .before .before)) }
 
 codes-at-requires : tie.Need-codes-at-requires
-codes-at-requires c κs = let p = c .before .before .before .before .before .pre in (omega (arith, p), omega (arith, mask-place (c .before .before)))
+codes-at-requires c κs = let p = c .before .before .before .before .before .before .before .pre .1 in (omega (arith, p), omega (arith, mask-place (c .before .before .before)))
 
 step-place-requires : tie.Need-step-place-requires
 step-place-requires c κs = search needs
 
 step-at-requires : tie.Need-step-at-requires
-step-at-requires c κs = let p = c .before .before .before .before .before .before .before .pre in (omega (arith, p), omega (arith, step-place c))
+step-at-requires c κs = let p = c .before .before .before .before .before .before .before .before .before .pre .1 in (omega (arith, p), omega (arith, step-place c))
 
-cast-t16 : tie.Need-cast-t16
-cast-t16 c = search needs
+cast-t31 : tie.Need-cast-t31
+cast-t31 c = search needs
 
 returns : tie.Need-returns
 returns c =
     let st = c .before in
     let sp = st .before in
     let ca = sp .before in
-    let mf = ca .before .before in
-    let f = mf .before in
-    let b = f .before in
+    let v = ca .before .before .before .before in
+    let l = v .before in
+    let b = l .before in
     let g = b .before .before .args in
-    named-read (g .in-ro) (g .a) (now (g .s)) (g .start) (g .offset) _ (f .fields-of .result) _ _ _ _ _
-    (b .byte-at .ensures) (f .fields-of .ensures) (mf .media-from .ensures) (low c) (high c) (ca .codes-at .ensures) (rw (← sp .step-place .ensures) (st .step-at .ensures))
+    named-read (g .in-ro) (g .a) (now (g .s)) (g .start) (g .offset) _ (getD (now (g .shapes)) (l .class-of .result) []) (v .values-of .result) _ _ _ _
+    (b .byte-at .ensures) (shape-is l) (v .values-of .ensures) (low c) (high c) (ca .codes-at .ensures) (rw (← sp .step-place .ensures) (st .step-at .ensures))
 
 pub named-at-spec : {M : Type 1} → statement M
 named-at-spec =
     tie.close
     (tie.spec
     byte-at-requires
-    fields-of-requires
+    class-of-requires
+    values-of-requires
     add-from
-    cast-t9
-    add-media-from
-    media-from-requires
+    cast-t12
+    mul-t13
+    index-1-t18
+    index-2-t18
+    cast-t19
+    mul-t20
+    index-1-t25
+    index-2-t25
+    cast-t26
     codes-at-requires
     step-place-requires
     step-at-requires
-    cast-t16
+    cast-t31
     returns)
