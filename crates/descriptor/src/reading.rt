@@ -75,15 +75,15 @@ pub fn named_at(
     ensures { λ r. ⌜ r ≡ namedOf in_ro (entryAt a (now (s .entry)) start offset) ⌝ }
 {
     let id = byte_at(s, start);
-    let class = class_of(classes, id);
+    let shape = shapes[class_of(classes, id)];
     let values = values_of(id);
     let from = start + a;
     Named {
         ro: in_ro,
         id: id as usize,
         offset,
-        parts: shapes[class][PARTS] as usize,
-        width: shapes[class][WIDTH] as usize,
+        parts: shape[PARTS] as usize,
+        width: shape[WIDTH] as usize,
         signed: values.signed,
         low: values.low,
         high: values.high,
