@@ -2,7 +2,9 @@
 ghost use mathlib.Core.Path.{_≡_};
 ghost use Prim.Native.Nat.{_≤_};
 ghost use lib.ListN.{length};
+ghost use mathlib.Core.Bool.{true};
 ghost use Rattle.rules.specs.declared.Call.{Call};
+ghost use Rattle.rules.specs.Load.{sized};
 ghost use Rattle.rules.specs.Layout.{bankSize};
 ghost use Rattle.rules.specs.Bank.{freshBank, freshCall, bankCall};
 ghost use Rattle.rules.specs.Beside.{weightCall};
@@ -293,6 +295,22 @@ pub fn apply(count: usize, rw: &[u8], ro: &[u8], bank: &mut [u8], set: usize, la
     if bank.len() < BANK_SIZE {
         return Answer::Refused(Refusal::Plain(8));
     }
+    apply_within(count, rw, ro, bank, set, lanes)
+}
+
+// The same past 9 and 8, one function deeper (see `descriptor::cover`).
+fn apply_within(
+    count: usize,
+    rw: &[u8],
+    ro: &[u8],
+    bank: &mut [u8],
+    set: usize,
+    lanes: u8,
+) -> Answer
+    requires { ⌜ (sized count (now rw) (now ro) ≡ true) × (bankSize ≤ length (now bank)) ⌝ }
+    ensures answer { λ r. ⌜ r ≡ bankCall count (now (rw .entry)) (now (ro .entry)) (Call.Apply set lanes) (now (bank .entry)) .0 ⌝ }
+    ensures after { λ _. ⌜ now (bank .exit) ≡ bankCall count (now (rw .entry)) (now (ro .entry)) (Call.Apply set lanes) (now (bank .entry)) .1 ⌝ }
+{
     let mut list = [[0; 9]; 30];
     let loaded = entries(count, rw, ro, &mut list);
     match loaded {
