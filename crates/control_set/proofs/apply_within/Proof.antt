@@ -7,12 +7,11 @@ use native.Mathlib.Omega.{arith}
 use lib.ListN.{length}
 use lib.Dec.{eqb}
 use denote.Ref.{now}
-use borrow.Author.Tests.{lt-ltb, le-ltb, eq-eqb, ne-eqb, not-true, not-false}
+use borrow.Author.Tests.{lt-ltb, le-ltb, eq-eqb, ne-eqb}
 use Rattle.rules.specs.declared.Call.{Call}
-use Rattle.rules.specs.Load.{sized}
 use Rattle.rules.specs.Place.{isSet}
 use Rattle.rules.proofs.Bank.Places.{size-is}
-use Rattle.rules.proofs.Refusals.CallOrder.{meets, bank-order-9, bank-order-8}
+use Rattle.rules.proofs.Refusals.CallOrder.{meets}
 use Rattle.rules.proofs.Refusals.Orders.{bank-order-refused}
 use Rattle.control_set.specs.Gate.{Opened}
 use Rattle.control_set.specs.Plan.{Asked, Listed}
