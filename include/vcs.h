@@ -69,8 +69,8 @@ typedef struct {
     int64_t number;
 } vcs_answer;
 
-/* What the reader's step gives: an entry's start and length, or the end (`end` is 1, and these are 0); and the position after
-   it, which is the one before unless an entry was given. */
+/* What a reader takes: an entry's start and length, or the end (`end` is 1, and these are 0); and the position after
+   it, which is the one before unless an entry was taken. */
 typedef struct {
     size_t refusal;
     size_t end;
@@ -153,8 +153,8 @@ vcs_answer vcs_perform(size_t count, const uint8_t *rw, size_t rw_length, const 
 vcs_answer vcs_weight(size_t count, const uint8_t *rw, size_t rw_length, const uint8_t *ro, size_t ro_length,
                       const uint8_t *bank, size_t bank_length, size_t entry, size_t lane);
 
-/* The reader's step over one string at any position: the entry that begins there, or the end if no byte is left from it on.
-   From 0 on, each step at the position that the one before gave, it gives the string's entries in order. Refusals 9, 1, 2. */
+/* What a reader takes from one string at any position: the entry that begins there, or the end if no byte is left from it on.
+   From 0 on, each time at the position that the one before gave, it takes the string's entries in order. Refusals 9, 1, 2. */
 vcs_taken vcs_take(size_t count, const uint8_t *string, size_t string_length, size_t position);
 
 #ifdef __cplusplus

@@ -87,8 +87,8 @@ pub struct Answer {
     pub number: i64,
 }
 
-/// What the reader's step gives: an entry's start and length, or the end (`end` is 1, and these are 0); and the
-/// position after it, which is the one before unless an entry was given.
+/// What a reader takes: an entry's start and length, or the end (`end` is 1, and these are 0); and the
+/// position after it, which is the one before unless an entry was taken.
 #[repr(C)]
 #[derive(Clone, Copy, Debug, Default, PartialEq, Eq)]
 pub struct Taken {
@@ -186,8 +186,8 @@ calls! {
     weight(bank: &[u8], entry: usize, lane: usize) -> Answer = vcs_weight(bank.as_ptr(), bank.len(), entry, lane);
 }
 
-/// The reader's step over one string at any position: the entry that begins there, or the end if no byte is left from
-/// it on. From 0 on, each step at the position that the one before gave, it gives the string's entries in order.
+/// What a reader takes from one string at any position: the entry that begins there, or the end if no byte is left from
+/// it on. From 0 on, each time at the position that the one before gave, it takes the string's entries in order.
 /// Refusals 9, 1, 2.
 #[allow(dead_code)]
 #[inline]

@@ -1,4 +1,4 @@
-//! The reader's step: from 0 to the end of each string, and at any position with any count.
+//! What a reader takes: from 0 to the end of each string, and at any position with any count.
 
 use crate::case::{Case, Hex};
 use crate::engine::{self, Loaded, Taken};
@@ -10,7 +10,7 @@ use crate::tally::Row;
 
 pub static CALL: Row = Row::new("take", refusals::TAKE);
 
-/// What an accepted step gives.
+/// What an accepted take gives.
 pub static ENTRY: Row = Row::new("take: entry", ACCEPTED);
 pub static END: Row = Row::new("take: end", ACCEPTED);
 
@@ -29,16 +29,16 @@ fn end(position: usize) -> Taken {
 }
 
 fn of_second(count: usize, string: &[u8], position: usize) -> Taken {
-    let (step, position) = second::reader_step(count, string, position);
-    match step {
+    let (taken, position) = second::reader_step(count, string, position);
+    match taken {
         second::Step::Entry { start, length } => Taken { start, length, position, ..Taken::default() },
         second::Step::Refused(number) => Taken { refusal: number as usize, position, ..Taken::default() },
         second::Step::End => end(position),
     }
 }
 
-/// Compares one step, also with an answer that is known. The answer, if all agree.
-fn compare_step(
+/// Compares one take, also with an answer that is known. The answer, if all agree.
+fn compare_take(
     report: &mut Report,
     count: usize,
     string: &[u8],
@@ -56,10 +56,10 @@ fn compare_step(
     agree.then_some(taken)
 }
 
-/// Steps over a string from 0 as long as entries come.
-fn compare_steps(report: &mut Report, count: usize, string: &[u8]) {
+/// Takes from a string from 0 on, as long as entries come.
+fn compare_takes(report: &mut Report, count: usize, string: &[u8]) {
     let mut position = 0;
-    while let Some(taken) = compare_step(report, count, string, position, None) {
+    while let Some(taken) = compare_take(report, count, string, position, None) {
         if taken.refusal != 0 || taken.end == 1 {
             break;
         }
@@ -67,18 +67,18 @@ fn compare_steps(report: &mut Report, count: usize, string: &[u8]) {
     }
 }
 
-/// Steps over a string that the load accepts: its entries in order, then the end.
+/// Takes from a string that the load accepts: its entries in order, then the end.
 fn compare_entries(report: &mut Report, count: usize, string: &[u8], entries: &[second::EntryInfo]) {
     let mut position = 0;
     for info in entries {
         let known = entry(info.start, info.length);
-        compare_step(report, count, string, position, Some(("the load's entry", known)));
+        compare_take(report, count, string, position, Some(("the load's entry", known)));
         position = known.position;
     }
-    compare_step(report, count, string, position, Some(("the end", end(string.len()))));
+    compare_take(report, count, string, position, Some(("the end", end(string.len()))));
 }
 
-/// Compares the steps over both strings from 0 on.
+/// Compares what is taken from both strings from 0 on.
 fn compare_strings(report: &mut Report, case: &Case, loaded: &Loaded) {
     let entries = second::entries(case.count, case.rw, case.ro).unwrap_or_default();
     for string in [RW, RO] {
@@ -86,26 +86,26 @@ fn compare_strings(report: &mut Report, case: &Case, loaded: &Loaded) {
             let own: Vec<_> = entries.iter().filter(|info| info.in_ro == (string == RO)).copied().collect();
             compare_entries(report, case.count, case.string(string), &own);
         } else {
-            compare_steps(report, case.count, case.string(string));
+            compare_takes(report, case.count, case.string(string));
         }
     }
 }
 
-/// Compares the steps over both strings from 0 on, and one at a random position with a count in range or not.
+/// Compares what is taken from both strings from 0 on, and one at a random position with a count in range or not.
 pub fn compare(report: &mut Report, case: &Case, loaded: &Loaded, random: &Random) {
     compare_strings(report, case, loaded);
     let string = case.string(random.below(2));
     let count = if random.once_in(4) { random.about(16) } else { case.count };
-    compare_step(report, count, string, random.about(string.len()), None);
+    compare_take(report, count, string, random.about(string.len()), None);
 }
 
-/// Compares the steps over both strings from 0 on, and at every position, just past the end and far past it.
+/// Compares what is taken from both strings from 0 on, and at every position, just past the end and far past it.
 pub fn compare_all(report: &mut Report, case: &Case, loaded: &Loaded) {
     compare_strings(report, case, loaded);
     for string in [case.rw, case.ro] {
         for position in (0..string.len() + 2).chain(FAR) {
             for count in COUNTS.into_iter().chain([case.count]) {
-                compare_step(report, count, string, position, None);
+                compare_take(report, count, string, position, None);
             }
         }
     }
