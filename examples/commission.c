@@ -13,6 +13,22 @@ static size_t count, rw_length, ro_length;
 #define MODULE count, rw, rw_length, ro, ro_length
 #define BANK bank, sizeof bank
 
+/* What is staged in every lane: values for RW entries of the linear module. Those of 09h, 0Ah and 0Dh count steps; a number
+   outside the entry's Min and Max would be refused with 12. The 0 of a fresh bank isn't one of entry 6. */
+static const struct {
+    size_t entry;
+    int64_t value;
+} settings[] = {
+    {1, 20},  /* 09h, input equalizer: 5 dB */
+    {2, -6},  /* 0Ah, output equalizer: -3 dB */
+    {3, 1},   /* 0Bh, output precoding on */
+    {5, -14}, /* 0Dh, index -1: -0.14 */
+    {6, 86},  /* 0Dh, index 0: 0.86 */
+    {7, 9},   /* 0Eh, output amplitude: 700 mV */
+    {8, 12},  /* 0Fh, the host's channel loss for Rx: 12 dB */
+    {9, 9},   /* 10h, for Tx: 9 dB */
+};
+
 /* Ends the program if a call was refused. Refusals 1 to 7 name an entry, 13 and 14 a lane, the others nothing. */
 static void accepted(const char *call, vcs_answer answer)
 {
@@ -41,16 +57,17 @@ int main(int words, char **word)
     size_t entries = map.rw_count + map.ro_count;
     printf("%zu entries, staged length %zu, active length %zu\n", entries, map.staged_length, map.active_length);
 
-    /* Entry 4 is the host's channel loss for Rx (0Fh): where does its field of lane 3 stand in a set? */
-    vcs_placed placed = vcs_place(MODULE, 0, 4, 0, 3);
+    /* Entry 8 is the host's channel loss for Rx (0Fh): where does its field of lane 3 stand in a set? */
+    vcs_placed placed = vcs_place(MODULE, 0, 8, 0, 3);
     accepted("place", (vcs_answer){placed.refusal, placed.at, 0});
-    printf("entry 4, part 0, lane 3: offset %zu, bit %zu\n", placed.offset, placed.bit);
+    printf("entry 8, part 0, lane 3: offset %zu, bit %zu\n", placed.offset, placed.bit);
 
-    /* Staged set 0: application 1 in lanes 1 to 4, 2 in the others; 12 dB for Rx, 9 dB for Tx (10h, entry 5). */
+    /* Staged set 0: application 1 in lanes 1 to 4, 2 in the others, and the settings. */
     for (size_t lane = 1; lane <= 8; lane++) {
         accepted("select", vcs_select(MODULE, BANK, 0, lane, lane <= 4 ? 1 : 2));
-        accepted("write", vcs_write(MODULE, BANK, 0, 4, 0, lane, 12));
-        accepted("write", vcs_write(MODULE, BANK, 0, 5, 0, lane, 9));
+        for (size_t i = 0; i < sizeof settings / sizeof settings[0]; i++) {
+            accepted("write", vcs_write(MODULE, BANK, 0, settings[i].entry, 0, lane, settings[i].value));
+        }
     }
     /* All eight lanes: each takes the fields that its application has. */
     accepted("apply", vcs_apply(MODULE, BANK, 0, 0xFF));

@@ -9,6 +9,19 @@ mod vcs;
 
 use std::{env, error::Error, fs, process};
 
+/// What is staged in every lane: values for RW entries of the linear module. Those of 09h, 0Ah and 0Dh count steps; a number
+/// outside the entry's Min and Max would be refused with 12. The 0 of a fresh bank isn't one of entry 6.
+const SETTINGS: [(usize, i64); 8] = [
+    (1, 20),  // 09h, input equalizer: 5 dB
+    (2, -6),  // 0Ah, output equalizer: -3 dB
+    (3, 1),   // 0Bh, output precoding on
+    (5, -14), // 0Dh, index -1: -0.14
+    (6, 86),  // 0Dh, index 0: 0.86
+    (7, 9),   // 0Eh, output amplitude: 700 mV
+    (8, 12),  // 0Fh, the host's channel loss for Rx: 12 dB
+    (9, 9),   // 10h, for Tx: 9 dB
+];
+
 /// Ends the program if a call was refused. Refusals 1 to 7 name an entry, 13 and 14 a lane, the others nothing.
 fn accepted(call: &str, vcs::Answer { refusal, at, .. }: vcs::Answer) {
     match refusal {
@@ -33,16 +46,17 @@ fn main() -> Result<(), Box<dyn Error>> {
     let entries = map.rw_count + map.ro_count;
     println!("{entries} entries, staged length {}, active length {}", map.staged_length, map.active_length);
 
-    // Entry 4 is the host's channel loss for Rx (0Fh): where does its field of lane 3 stand in a set?
-    let placed = vcs::place(count, &rw, &ro, 0, 4, 0, 3);
+    // Entry 8 is the host's channel loss for Rx (0Fh): where does its field of lane 3 stand in a set?
+    let placed = vcs::place(count, &rw, &ro, 0, 8, 0, 3);
     accepted("place", vcs::Answer { refusal: placed.refusal, at: placed.at, number: 0 });
-    println!("entry 4, part 0, lane 3: offset {}, bit {}", placed.offset, placed.bit);
+    println!("entry 8, part 0, lane 3: offset {}, bit {}", placed.offset, placed.bit);
 
-    // Staged set 0: application 1 in lanes 1 to 4, 2 in the others; 12 dB for Rx, 9 dB for Tx (10h, entry 5).
+    // Staged set 0: application 1 in lanes 1 to 4, 2 in the others, and the settings.
     for lane in 1..=8 {
         accepted("select", vcs::select(count, &rw, &ro, &mut bank, 0, lane, if lane <= 4 { 1 } else { 2 }));
-        accepted("write", vcs::write(count, &rw, &ro, &mut bank, 0, 4, 0, lane, 12));
-        accepted("write", vcs::write(count, &rw, &ro, &mut bank, 0, 5, 0, lane, 9));
+        for (entry, value) in SETTINGS {
+            accepted("write", vcs::write(count, &rw, &ro, &mut bank, 0, entry, 0, lane, value));
+        }
     }
     // All eight lanes: each takes the fields that its application has.
     accepted("apply", vcs::apply(count, &rw, &ro, &mut bank, 0, 0xFF));

@@ -10,6 +10,8 @@
 // Every number may have any value: what doesn't exist is refused. In an answer, `refusal` is 0 if the call is accepted,
 // otherwise document 01's number; `at` is then the entry that 1 to 7 name, or the lane that 13 and 14 name, else 0. All
 // other members are 0 in a refused answer, but for the reader's position.
+// Numbers of fields are unsigned, but those of 09h, 0Ah, 0Dh, 11h and 12h have a sign. Write takes of 09h, 0Ah and 0Dh a
+// number from the entry's Min to its Max. Weight alone multiplies by a step, that of 12h.
 
 /// The bytes of a bank: staged sets 0 and 1 and the active set, 2, then the AppSels of each staged set.
 #[allow(dead_code)]

@@ -4,8 +4,8 @@
    it. The page's other bytes are canaries. After a call both strings and all canaries are as they were, and so is every byte
    of the bank but those that an accepted call of its kind may change; a call that touches a byte outside the three pages is
    stopped. Refusals 9, 8 and 1 to 7 come exactly when they must, and a refused answer has no other number. Most maps
-   are accepted or nearly so: every export and every kind of perform must accept some calls and refuse some, and every refusal
-   must occur.
+   are accepted or nearly so: every export and every kind of perform must accept some calls and refuse some, every refusal
+   must occur, and every ID that write takes must have an accepted write and each refusal that its entry can have.
 
    gcc -std=c11 -Wall -Wextra -Werror -O2 -I include tests/hardening.c target/staticlib/libvcs.a -o target/hardening
    target/hardening [calls [seed]] */
@@ -44,6 +44,9 @@ static const struct {
 enum { NUMBERS = sizeof REFUSALS / sizeof REFUSALS[0] };
 
 static size_t seed = 1, calls = 1000000, made, accepted[EXPORTS], refused[EXPORTS], refusals[NUMBERS];
+
+/* Accepted writes, and refused maps by their number, each by the ID of the entry that is named. */
+static size_t written[256], stopped[256][NUMBERS];
 
 /* ---- Random numbers: splitmix64 ---- */
 
@@ -179,14 +182,20 @@ static vcs_loaded map;
 #define LENT_BANK buffers[BANK].lent, buffers[BANK].length
 
 /* Least Length without A, and bytes needed, of IDs 00h to 13h. */
-static const uint8_t LEAST[] = {3, 3, 4, 4, 6, 4, 4, 7, 6, 3, 3, 3, 3, 3, 3, 4, 4, 4, 6, 3};
-static const uint8_t NEEDED[] = {0, 0, 1, 2, 4, 1, 1, 8, 4, 0, 0, 0, 0, 0, 0, 8, 8, 16, 8, 0};
+static const uint8_t LEAST[] = {3, 3, 4, 4, 6, 4, 4, 7, 6, 8, 8, 4, 4, 8, 6, 4, 4, 4, 6, 3};
+static const uint8_t NEEDED[] = {0, 0, 1, 2, 4, 1, 1, 8, 4, 8, 8, 1, 1, 8, 4, 8, 8, 16, 8, 0};
+
+/* Whether an ID has a step: the last byte of its least Length, after Min and Max or (12h) the index. */
+static int has_step(uint8_t id)
+{
+    return id == 0x09 || id == 0x0A || id == 0x0D || id == 0x12;
+}
 
 /* Adds an entry that is accepted, if there is room for it in the string and for its MemoryLength in the sum. */
 static void add_entry(int string, uint8_t bytes[], size_t *length, size_t *sum, int *media)
 {
     size_t a = count <= 8 ? 1 : 2;
-    uint8_t id = string == RW ? PICK(uint8_t, 2, 3, 4, 5, 6, 7, 8, 15, 16, 4, 7, 8, 0, 1, (uint8_t)(9 + below(6)), 0x13)
+    uint8_t id = string == RW ? PICK(uint8_t, 2, 3, 4, 5, 6, 7, 8, 9, 10, 11, 12, 13, 14, 15, 16, 4, 7, 8, 9, 13, 0, 1, 0x13)
                               : PICK(uint8_t, 0x11, 0x12, 0x12, 0, 0x13);
     size_t size = LEAST[id] + a + (once_in(6) ? below(6) : 0);
     size_t memory = NEEDED[id] + (once_in(6) || NEEDED[id] == 0 ? below(8) : 0);
@@ -208,10 +217,15 @@ static void add_entry(int string, uint8_t bytes[], size_t *length, size_t *sum, 
         entry[3 + a] = (uint8_t)((entry[3 + a] & 0xFE) | side);
         *media |= side && string == RW;
     }
-    if (id == 0x12) {
-        entry[5 + a] %= 4;
+    uint8_t *last = entry + LEAST[id] + a - 1;
+    if (has_step(id)) {
+        *last = (uint8_t)(*last % 4 + (id < 0x0D));
+        if (id != 0x12 && !once_in(4)) { /* Min below 0, Max not. */
+            last[id == 0x0D ? -1 : -2] |= 0x80;
+            last[id == 0x0D ? -2 : -1] &= 0x7F;
+        }
     } else if (LEAST[id] >= 6 && !once_in(4)) {
-        memset(entry + LEAST[id] + a - 2, 0xFF, 2);
+        memset(last - 1, 0xFF, 2);
     }
     *length += size;
     *sum += memory;
@@ -233,19 +247,45 @@ static void fill_string(uint8_t bytes[], size_t *length, size_t *sum)
     *sum += memory;
 }
 
-/* Makes a string of 0 to 130 bytes: accepted, or with the other string's entries, a byte changed, cut, longer, or noise. */
+/* Changes one number of an entry: Length, MemoryLength, its side, or the byte where a step stands. */
+static void damage_entry(uint8_t entry[])
+{
+    size_t a = count <= 8 ? 1 : 2;
+    switch (below(5)) {
+    case 0:
+        entry[1]--;
+        break;
+    case 1:
+        entry[2 + a]--;
+        break;
+    case 2:
+        entry[2 + a] = 255;
+        break;
+    case 3:
+        entry[3 + a] ^= 1;
+        break;
+    case 4:
+        entry[LEAST[entry[0] < 0x13 ? entry[0] : 0x13] + a - 1] = PICK(uint8_t, 0, 4, 5, 255);
+        break;
+    }
+}
+
+/* Makes a string of 0 to 130 bytes: accepted, or with the other string's entries, an entry or a byte changed, cut, longer,
+   or noise. */
 static void make_string(int string, size_t *sum, int *media, int damage)
 {
     uint8_t bytes[130] = {0};
-    size_t length = 0;
+    size_t length = 0, chosen = 0;
     for (size_t entries = below(PICK(size_t, 2, 8, 24, 40)); entries > 0; entries--) {
+        size_t start = length;
         add_entry(damage && once_in(12) ? 1 - string : string, bytes, &length, sum, media);
+        chosen = length > start && once_in(3) ? start : chosen;
     }
     if (once_in(8)) {
         fill_string(bytes, &length, sum);
     }
     size_t planned = length;
-    switch (damage ? below(6) : 6) {
+    switch (damage ? below(10) : 10) {
     case 0:
     case 1:
         bytes[below(length + 1)] = (uint8_t)next();
@@ -263,6 +303,12 @@ static void make_string(int string, size_t *sum, int *media, int damage)
         length = below(131);
         planned = 0;
         break;
+    case 6:
+    case 7:
+    case 8:
+    case 9:
+        damage_entry(bytes + chosen);
+        break;
     }
     buffer *b = &buffers[string];
     lend(b, length);
@@ -270,6 +316,22 @@ static void make_string(int string, size_t *sum, int *media, int damage)
         memcpy(b->lent, bytes, planned < length ? planned : length);
     }
     keep(b);
+}
+
+/* The ID of an entry of the map, or of the one that refused it: those before have passed checks 1 and 2. */
+static uint8_t id_of(size_t entry)
+{
+    size_t string = RW, at = 0;
+    for (;; entry--) {
+        if (string == RW && at == buffers[RW].length) {
+            string = RO;
+            at = 0;
+        }
+        if (entry == 0) {
+            return buffers[string].lent[at];
+        }
+        at += buffers[string].lent[at + 1];
+    }
 }
 
 /* The position after the last step over a string. */
@@ -302,6 +364,9 @@ static void make_map(void)
     keep(b);
     positions[RW] = positions[RO] = 0;
     map = vcs_load(LENT);
+    if (map.refusal < NUMBERS && REFUSALS[map.refusal].names == AN_ENTRY) {
+        stopped[id_of(map.at)][map.refusal]++;
+    }
 }
 
 /* ---- One call ---- */
@@ -437,6 +502,9 @@ static void call_one(size_t export)
         memset(buffers[BANK].kept + (buffers[BANK].lent - buffers[BANK].page), 0, VCS_BANK_SIZE);
     } else if (is_accepted) {
         changes(&c);
+        if (export == WRITE) {
+            written[id_of(c.entry)]++;
+        }
     }
     for (int i = 0; i < BUFFERS; i++) {
         if (memcmp(buffers[i].page, buffers[i].kept, PAGE) != 0) {
@@ -468,6 +536,15 @@ int main(int words, char **word)
         if (refusals[i] == 0) {
             printf("hardening: refusal %zu has not occurred\n", i);
             exit(1);
+        }
+    }
+    for (uint8_t id = 0x02; id <= 0x10; id++) {
+        for (size_t i = 1; i <= 7; i++) {
+            int can_fail = i == 5 ? has_step(id) : i == 6 ? id <= 0x08 : 1;
+            if (written[id] == 0 || (can_fail && stopped[id][i] == 0)) {
+                printf("hardening: no write of %02Xh, or no refusal %zu\n", id, i);
+                exit(1);
+            }
         }
     }
     printf("hardening: %zu calls, seed %zu\n", made, seed);

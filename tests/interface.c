@@ -1,4 +1,4 @@
-/* Checks the C interface: the layout that include/vcs.h promises, and answers worked out by hand from document 01.
+/* Checks the C interface: the layout that include/vcs.h promises, and answers worked out by hand from document 01 and note 1.
 
    gcc -std=c11 -Wall -Wextra -Werror -I include tests/interface.c target/staticlib/libvcs.a -o target/interface */
 #include <stdio.h>
@@ -344,6 +344,21 @@ static void loads(void)
          NUMBERS(0, 0, 1, 0, 5, 5));
     load("step 4", (map){4, NONE, BYTES(0x12, 0x07, 0x01, 0x08, 0x00, 0xFF, 0x04)}, REFUSED(5, 0));
     load("step 3", (map){4, NONE, BYTES(0x12, 0x07, 0x01, 0x08, 0x00, 0xFF, 0x03)}, NUMBERS(0, 0, 0, 1, 0, 8));
+    load("09h, Length 8", (map){4, BYTES(0x09, 0x08, 0x01, 0x08, 0x00, 0x00, 0xF8, 0x06), NONE}, REFUSED(2, 0));
+    load("09h in RO", (map){4, NONE, BYTES(0x09, 0x09, 0x01, 0x08, 0x00, 0x00, 0xF8, 0x06, 0x01)}, REFUSED(3, 0));
+    load("09h, MemoryLength 7", (map){4, BYTES(0x09, 0x09, 0x01, 0x07, 0x00, 0x00, 0xF8, 0x06, 0x01), NONE},
+         REFUSED(4, 0));
+    load("09h, step 0", (map){4, BYTES(0x09, 0x09, 0x01, 0x08, 0x00, 0x00, 0xF8, 0x06, 0x00), NONE}, REFUSED(5, 0));
+    load("0Ah, step 4", (map){4, BYTES(0x0A, 0x09, 0x01, 0x08, 0x00, 0x00, 0xF8, 0x06, 0x04), NONE},
+         NUMBERS(0, 0, 1, 0, 8, 8));
+    load("0Dh, step 4", (map){4, BYTES(0x0D, 0x09, 0x01, 0x08, 0x00, 0x00, 0x06, 0xF8, 0x04), NONE}, REFUSED(5, 0));
+    load("0Ch, no byte", (map){4, BYTES(0x0C, 0x05, 0x01, 0x00, 0x00), NONE}, REFUSED(4, 0));
+    load("host side after a media-side 0Bh",
+         (map){4, BYTES(0x0B, 0x05, 0x01, 0x01, 0x01, 0x02, 0x05, 0x01, 0x01, 0x00), NONE},
+         REFUSED(6, 1));
+    load("host-side 0Bh after media side",
+         (map){4, BYTES(0x02, 0x05, 0x01, 0x01, 0x01, 0x0B, 0x05, 0x01, 0x01, 0x00), NONE},
+         NUMBERS(0, 0, 2, 0, 2, 2));
     load("host side after media side",
          (map){4, BYTES(0x0F, 0x05, 0x01, 0x08, 0x01, 0x02, 0x05, 0x01, 0x01, 0x00), NONE},
          REFUSED(6, 1));
@@ -826,6 +841,87 @@ static void applies(void)
     apply("no string", (map){1, NONE, NONE}, 0, 0x80, YES);
 }
 
+/* 02h; 0Dh at offset 1, index -1, Max 0, Min -30, and at 9, index 0, Max 100, Min 50; 09h at 17 for AppSel 1, Min -8, Max 6;
+   0Ah at 25, Min above Max, for AppSel 2; 0Eh at 33, code mask 03FFh; 0Bh at 37. */
+#define THE_NUMBERS \
+    {4, \
+     BYTES(0x02, 0x05, 0x0F, 0x01, 0x00, 0x0D, 0x09, 0x0F, 0x08, 0x00, 0xFF, 0x00, 0xE2, 0x00, \
+           0x0D, 0x09, 0x0F, 0x08, 0x00, 0x00, 0x64, 0x32, 0x00, 0x09, 0x09, 0x01, 0x08, 0x00, 0x00, 0xF8, 0x06, 0x01, \
+           0x0A, 0x09, 0x02, 0x08, 0x00, 0x01, 0x06, 0xF8, 0x04, 0x0E, 0x07, 0x0F, 0x04, 0x00, 0x03, 0xFF, \
+           0x0B, 0x05, 0x0F, 0x01, 0x00), \
+     NONE}
+
+static void numbers(void)
+{
+    map m = THE_NUMBERS;
+    fill(0xFF);
+    memset(wanted, 0, VCS_BANK_SIZE);
+    fresh("the numbers' map", m, NUMBERS(0, 0, 7, 0, 38, 38));
+    place("0Dh, lane 3", m, 0, 1, 0, 3, NUMBERS(0, 0, 3, 0));
+    owner("0Dh, lane 3", m, 2, 3, 7, NUMBERS(0, 0, 0, 1, 0, 3));
+    place("0Eh, lane 8", m, 1, 5, 0, 8, NUMBERS(0, 0, 36, 4));
+    place("0Bh, lane 8", m, 1, 6, 0, 8, NUMBERS(0, 0, 37, 7));
+    place("part 1 of 0Dh", m, 0, 1, 1, 3, REFUSED(10, 0));
+
+    wanted[3] = 0xF2;
+    store("0Dh, -14", m, 0, 1, 0, 3, -14, YES);
+    fetch_byte("-14 as an unsigned pattern", m, 0, 3, NUMBER(0xF2));
+    fetch("-14", m, 0, 1, 0, 3, NUMBER(-14));
+    store("0Dh, Min - 1", m, 0, 1, 0, 3, -31, REFUSED(12, 0));
+    store("0Dh, Max + 1", m, 0, 1, 0, 3, 1, REFUSED(12, 0));
+    store("-14 as a pattern", m, 0, 1, 0, 3, 0xF2, REFUSED(12, 0));
+    store("-14 - 256", m, 0, 1, 0, 3, -14 - 256, REFUSED(12, 0));
+    wanted[4] = 0xE2;
+    store("0Dh, Min", m, 0, 1, 0, 4, -30, YES);
+    store("0Dh without 0", m, 0, 2, 0, 3, 0, REFUSED(12, 0));
+    wanted[VCS_APP_SEL_AT(0, 3)] = 1;
+    choose("AppSel 1, lane 3", m, 0, 3, 1, YES);
+    apply("0Dh holds 0, which it lacks", m, 0, 0x04, REFUSED(14, 3));
+    wanted[11] = 0x64;
+    store("0Dh, Max", m, 0, 2, 0, 3, 100, YES);
+    wanted[19] = 0xF8;
+    store("09h, Min", m, 0, 3, 0, 3, -8, YES);
+    store("09h, Min - 1", m, 0, 3, 0, 3, -9, REFUSED(12, 0));
+    store("09h, Max + 1", m, 0, 3, 0, 3, 7, REFUSED(12, 0));
+    store("0Ah, Min above Max", m, 0, 4, 0, 3, 0, REFUSED(12, 0));
+    wanted[34] = 0x09;
+    store("0Eh, 9", m, 0, 5, 0, 3, 9, YES);
+    store("0Eh, 10", m, 0, 5, 0, 3, 10, REFUSED(12, 0));
+    wanted[37] = 0x04;
+    store("0Bh, 1", m, 0, 6, 0, 3, 1, YES);
+    store("0Bh, 2", m, 0, 6, 0, 3, 2, REFUSED(12, 0));
+    wanted[ACTIVE + 3] = 0xF2;
+    wanted[ACTIVE + 11] = 0x64;
+    wanted[ACTIVE + 19] = 0xF8;
+    wanted[ACTIVE + 34] = 0x09;
+    wanted[ACTIVE + 37] = 0x04;
+    apply("numbers", m, 0, 0x04, YES);
+    fetch("-14, applied", m, 2, 1, 0, 3, NUMBER(-14));
+    fetch_byte("-14, applied, as an unsigned pattern", m, 2, 3, NUMBER(0xF2));
+    fetch("-8, applied", m, 2, 3, 0, 3, NUMBER(-8));
+    fetch("0Dh, lane 4 is not chosen", m, 2, 1, 0, 4, NUMBER(0));
+
+    wanted[3] = 0xE1;
+    store_byte("0Dh takes Min - 1 as a byte", m, 0, 3, 0xE1, YES);
+    fetch("-31", m, 0, 1, 0, 3, NUMBER(-31));
+    apply("0Dh holds Min - 1", m, 0, 0x04, REFUSED(14, 3));
+    wanted[3] = 0x80;
+    store_byte("0Dh takes -128 as a byte", m, 0, 3, 0x80, YES);
+    fetch("-128", m, 0, 1, 0, 3, NUMBER(-128));
+    wanted[3] = 0xFF;
+    store_byte("0Dh takes -1 as a byte", m, 0, 3, 0xFF, YES);
+    wanted[VCS_APP_SEL_AT(0, 3)] = 2;
+    choose("AppSel 2, lane 3", m, 0, 3, 2, YES);
+    apply("0Ah accepts nothing", m, 0, 0x04, REFUSED(14, 3));
+    wanted[VCS_APP_SEL_AT(0, 3)] = 3;
+    choose("AppSel 3, lane 3", m, 0, 3, 3, YES);
+    wanted[ACTIVE + 3] = 0xFF;
+    apply("without 09h and 0Ah", m, 0, 0x04, YES);
+    fetch("09h is kept", m, 2, 3, 0, 3, NUMBER(-8));
+    publish("publish to 0Dh", m, 1, 0, 3, -14, REFUSED(11, 0));
+    weigh("weight of 0Dh", m, 1, 3, REFUSED(10, 0));
+}
+
 /* A call of a kind; every other member is as large as can be, so what a kind ignores would show. */
 static vcs_call of_kind(size_t kind)
 {
@@ -1016,6 +1112,7 @@ int main(void)
     byte_writes();
     byte_reads();
     applies();
+    numbers();
     performs();
     weights();
     takes();

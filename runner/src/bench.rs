@@ -63,7 +63,7 @@ const MAPS: [Named; 3] = [
         name: "full",
         rw: "02 05 0F 01 00 03 05 0F 02 00 04 07 0F 04 00 1F FF 05 05 0F 01 00 06 05 0F 01 00 \
              07 08 0F 08 00 FF 0F FF 08 07 0F 04 00 00 0F \
-             01 06 0F 00 00 02 13 04 0F 00 09 04 0F 00 FF 04 0F 00 0F 05 03 08 01 10 05 03 08 00 \
+             01 06 0F 00 00 02 13 04 0F 00 14 04 0F 00 FF 04 0F 00 0F 05 03 08 01 10 05 03 08 00 \
              02 05 0F 01 01 03 05 0F 02 01 04 07 0F 04 01 1F FF 05 05 0F 01 01 06 05 0F 01 01 \
              07 08 0F 08 01 01 0F FF 08 07 0F 04 01 00 0F 00 04 00 00 00 04 00 00",
         ro: "12 07 0F 08 00 FD 00 11 05 0F 10 00 12 07 0F 08 00 FE 01 11 05 0F 10 00 \
@@ -191,8 +191,9 @@ fn varied_args(random: &Random, case: &Case) -> Args {
         lane: random.pick(&[random.within(1, 8), random.about(9)]),
         offset: random.about(random.pick(&[loaded.staged_length, loaded.active_length])),
         app: random.about(case.count.min(15) + 1),
-        value: match random.below(2) {
+        value: match random.below(3) {
             0 => random.below(16) as i64,
+            1 => random.below(391) as i64 - 130,
             _ => random.pick(&[-129, -128, -1, 16, 127, 128, 255, 256, i64::MIN, i64::MAX]),
         },
         byte: random.byte(),

@@ -1,8 +1,8 @@
 //! Maps with faults: each refusal at each kind of entry, faults at the exact boundary, several at once, and noise.
 
 use crate::random::Random;
-use crate::shape::{shape, RW_OPAQUE, TABLE};
-use crate::strings::{good_entry, high_opaque, wrong_id, Flat, Strings, LARGEST, LONGEST, RO, RW};
+use crate::shape::{self, shape, NUMERIC, RW_OPAQUE};
+use crate::strings::{good_entry, high_opaque, Flat, Strings, LARGEST, LONGEST, RO, RW};
 use crate::valid::{good_count, valid};
 
 /// A valid map with one fault, or with several in one entry or in many.
@@ -27,11 +27,11 @@ pub fn damaged(random: &Random) -> Flat {
 
 /// The place of an entry of a kind picked anew; it is inserted where the string has none.
 fn target(random: &Random, strings: &mut Strings, string: usize) -> usize {
-    let id = match random.below(6) {
-        0 | 1 => random.pick(TABLE[string]),
-        2 => 0x00,
-        3 if string == RW => random.pick(&RW_OPAQUE),
-        4 => wrong_id(random, string),
+    let id = match random.below(12) {
+        0..=5 => random.pick(strings.table[string]),
+        6 => 0x00,
+        7 if string == RW => RW_OPAQUE,
+        8 | 9 => strings.wrong_id(random, string),
         _ => high_opaque(random),
     };
     let found = strings.entries[string].iter().position(|entry| entry[0] == id);
@@ -65,7 +65,7 @@ fn damage(random: &Random, strings: &mut Strings, string: usize, index: usize) {
         2 | 3 => length_below(random, strings, string, index),
         4 => wrong_string(random, strings, string, index),
         5 => memory_below(random, strings, string, index),
-        6 => step_over(random, strings, index),
+        6 => reserved_step(random, strings, index),
         7 => host_after_media(random, strings, index),
         8 => sum_at_limit(random, strings, string, index),
         _ => strings.entries[string].push(vec![random.byte()]),
@@ -110,7 +110,7 @@ fn length_below(random: &Random, strings: &mut Strings, string: usize, index: us
 
 /// 3: an entry of the other string, well made.
 fn wrong_string(random: &Random, strings: &mut Strings, string: usize, index: usize) {
-    let id = wrong_id(random, string);
+    let id = strings.wrong_id(random, string);
     let entry = good_entry(random, strings.count, id, false);
     insert(strings, string, index, entry);
 }
@@ -129,19 +129,25 @@ fn memory_below(random: &Random, strings: &mut Strings, string: usize, index: us
     }
 }
 
-/// 5: a 12h entry with a step above 3.
-fn step_over(random: &Random, strings: &mut Strings, index: usize) {
-    let index = index.min(strings.entries[RO].len());
-    let mut entry = good_entry(random, strings.count, 0x12, false);
-    entry[strings.step_at()] = random.pick(&[4, 4, 255, random.within(4, 255)]) as u8;
-    insert(strings, RO, index, entry);
+/// 5: an entry with a reserved step.
+fn reserved_step(random: &Random, strings: &mut Strings, index: usize) {
+    let with_step = strings.table.concat().into_iter().filter(|&id| shape::step(id).is_some());
+    let id = random.pick(&with_step.collect::<Vec<u8>>());
+    let (at, first) = shape::step(id).expect("a step");
+    let above = usize::from(first) + 4;
+    let below = usize::from(first).checked_sub(1).unwrap_or(above);
+    let mut entry = good_entry(random, strings.count, id, random.once_in(8));
+    entry[at + strings.a()] = random.pick(&[below, above, above, 255, random.within(above, 255)]) as u8;
+    let string = if id == 0x12 { RO } else { RW };
+    let index = index.min(strings.entries[string].len());
+    insert(strings, string, index, entry);
 }
 
 /// 6: a host-side 02h to 08h with a media-side table entry anywhere before it.
 fn host_after_media(random: &Random, strings: &mut Strings, index: usize) {
     let index = index.min(strings.entries[RW].len());
     let host = random.within(0x02, 0x08) as u8;
-    let media = random.pick(TABLE[RW]);
+    let media = random.pick(strings.table[RW]);
     let host = good_entry(random, strings.count, host, false);
     let media = good_entry(random, strings.count, media, true);
     let index = insert(strings, RW, index, host);
@@ -204,11 +210,13 @@ pub fn changed(random: &Random) -> Flat {
 
 /// Entries whose every number stands at or beside its limit.
 pub fn bordering(random: &Random) -> Flat {
-    let mut strings = Strings::new(good_count(random));
+    let mut strings = Strings::new(random, good_count(random));
     for string in [RW, RO] {
         for _ in 0..random.below(12) {
             let id = if random.once_in(12) { random.byte() } else { random.within(0x00, 0x13) as u8 };
             let id = if string == RO && random.once_in(2) { random.pick(&[0x00, 0x11, 0x12, 0x13]) } else { id };
+            let is_drawn = !NUMERIC.contains(&id) || strings.table[RW].contains(&id);
+            let id = if is_drawn { id } else { random.pick(strings.table[RW]) };
             let mut entry = good_entry(random, strings.count, id, random.once_in(6));
             let place = strings.memory_at();
             entry[place] = match random.below(24) {
@@ -221,7 +229,7 @@ pub fn bordering(random: &Random) -> Flat {
             }
             if random.once_in(8) {
                 let last = entry.len() - 1;
-                entry[last] = random.pick(&[3, 4]);
+                entry[last] = random.pick(&[0, 1, 3, 4, 5]);
             }
             if strings.size(string) + entry.len() <= LONGEST {
                 strings.entries[string].push(entry);

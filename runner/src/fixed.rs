@@ -1,8 +1,9 @@
-//! Maps whose answers are known from document 01 alone: its examples, the agreement's appendices, the limits of each check.
+//! Maps and values whose answers are known from document 01 and note 1 of document 02 alone: examples, the agreement's
+//! appendices, the limits of each check.
 
-use crate::calls;
+use crate::calls::{self, bank};
 use crate::case::Case;
-use crate::engine::Loaded;
+use crate::engine::{self, Answered, Loaded, BANK_SIZE};
 use crate::report::Report;
 use crate::strings::Flat;
 
@@ -21,11 +22,21 @@ pub const INPUTS: [&[u8]; 4] = [
     include_bytes!("../../examples/linear.map"),
 ];
 
-/// RW and RO with every ID of the table, every code in the masks, a gap, and a 12h entry of each step; for count 4.
+/// RW and RO with every ID of the table, every code in the masks, a gap, and a 12h entry of each step; for count 4. Of 09h,
+/// 0Ah and the two 0Dh, one range is whole; the others are across 0, above 0 and below 0.
 pub const WHOLE: [&str; 2] = [
     "02 05 0F 01 00 03 05 0F 02 00 04 07 0F 04 00 FF FF 05 05 0F 01 00 06 05 0F 01 00 \
-     07 08 0F 08 00 00 FF FF 08 07 0F 04 00 FF FF 0F 05 0F 08 00 10 05 0F 08 00 00 04 00 02",
+     07 08 0F 08 00 00 FF FF 08 07 0F 04 00 FF FF 0F 05 0F 08 00 10 05 0F 08 00 00 04 00 02 \
+     09 09 0F 08 00 00 F8 06 01 0A 09 0F 08 00 01 03 14 04 0B 05 0F 01 00 0C 05 0F 01 00 \
+     0D 09 0F 08 00 FF FD E2 00 0D 09 0F 08 00 00 7F 80 03 0E 07 0F 04 00 FF FF",
     "11 05 0F 10 00 12 07 0F 08 00 00 00 12 07 0F 08 00 00 01 12 07 0F 08 00 00 02 12 07 0F 08 00 00 03",
+];
+
+/// The same without the IDs of note 1.
+const BASE: [&str; 2] = [
+    "02 05 0F 01 00 03 05 0F 02 00 04 07 0F 04 00 FF FF 05 05 0F 01 00 06 05 0F 01 00 \
+     07 08 0F 08 00 00 FF FF 08 07 0F 04 00 FF FF 0F 05 0F 08 00 10 05 0F 08 00 00 04 00 02",
+    WHOLE[1],
 ];
 
 /// Both entry counts, staged and active length.
@@ -45,7 +56,7 @@ pub fn compare(report: &mut Report) {
     expect("the map program's map", map[0].into(), &map[2..17], &[], accepted(3, 0, 4, 4));
     expect("appendix A", 4, APPENDIX_A, &[], refused(4, 5));
     expect("appendix B", 1, APPENDIX_B[0], APPENDIX_B[1], accepted(3, 2, 11, 35));
-    expect("a linear module", 2, LINEAR[0], LINEAR[1], accepted(6, 5, 57, 104));
+    expect("a linear module", 2, LINEAR[0], LINEAR[1], accepted(10, 5, 75, 120));
     for id in 0..=0xFF {
         for count in [4, 9] {
             expect("P8", count, &[id, 0], &[], refused(2, 0));
@@ -55,6 +66,12 @@ pub fn compare(report: &mut Report) {
     }
     for (name, count, rw, ro, known) in settings() {
         expect(name, count, &hex(rw), &hex(ro), known);
+    }
+    for (name, rw, value, refusal) in values() {
+        let case = Case { count: 4, rw: &hex(rw), ro: &[] };
+        let answered = engine::write(4, case.rw, &[], &mut [0; BANK_SIZE], 0, 0, 0, 1, value);
+        let others = [(name, Answered::refused(refusal, 0))];
+        report.compare(&bank::WRITE, &format_args!("{case} value {value}"), &answered, &others);
     }
 }
 
@@ -103,9 +120,112 @@ fn settings() -> Vec<(&'static str, usize, &'static str, &'static str, Loaded)> 
         ("media after media", 4, "0F 05 00 08 01 02 05 00 01 01", "", accepted(2, 0, 9, 9)),
         ("flag bits 1 to 7 are ignored", 4, "0F 05 00 08 FE 02 05 00 01 00", "", accepted(2, 0, 9, 9)),
         ("media side in RO", 4, "", "11 05 00 10 01 12 07 00 08 00 00 00", accepted(0, 2, 0, 24)),
-        ("every ID of the table", 4, WHOLE[0], WHOLE[1], accepted(10, 5, 39, 87)),
+        ("every ID of the table", 4, WHOLE[0], WHOLE[1], accepted(17, 5, 77, 125)),
+        ("every ID of the table but note 1's", 4, BASE[0], BASE[1], accepted(10, 5, 39, 87)),
         ("P10, P11 and 07h without 12", 9,
          "04 08 01 FF 04 00 1F FF 08 08 01 FF 05 00 FF FF 07 09 01 FF 08 00 FF EF FF", "", accepted(3, 0, 17, 17)),
+        ("09h", 4, "09 09 0F 08 00 00 F8 06 01", "", accepted(1, 0, 8, 8)),
+        ("09h, Length 8", 4, "09 08 0F 08 00 00 F8 06", "", refused(2, 0)),
+        ("09h as an opaque entry", 4, "09 04 0F 00", "", refused(2, 0)),
+        ("09h, two mask bytes", 9, "09 0A 01 FF 08 00 00 F8 06 01", "", accepted(1, 0, 8, 8)),
+        ("09h, two mask bytes, Length 9", 9, "09 09 01 FF 08 00 00 F8 06", "", refused(2, 0)),
+        ("09h, bytes past the step are skipped", 4, "09 0B 0F 08 00 00 F8 06 01 00 FF", "", accepted(1, 0, 8, 8)),
+        ("09h in RO", 4, "", "09 09 0F 08 00 00 F8 06 01", refused(3, 0)),
+        ("09h, MemoryLength 7", 4, "09 09 0F 07 00 00 F8 06 01", "", refused(4, 0)),
+        ("09h, MemoryLength 9", 4, "09 09 0F 09 00 00 F8 06 01", "", accepted(1, 0, 9, 9)),
+        ("09h, 4 before 5", 4, "09 09 0F 07 00 00 F8 06 00", "", refused(4, 0)),
+        ("09h, 3 before 5", 4, "", "09 09 0F 08 00 00 F8 06 00", refused(3, 0)),
+        ("09h, step 0", 4, "09 09 0F 08 00 00 F8 06 00", "", refused(5, 0)),
+        ("09h, step 4, EqualizerTarget any", 4, "09 09 0F 08 00 FF F8 06 04", "", accepted(1, 0, 8, 8)),
+        ("09h, step 5", 4, "09 09 0F 08 00 01 F8 06 05", "", refused(5, 0)),
+        ("09h, step in byte 9 with A 2", 9, "09 0A 00 00 08 00 01 01 01 05", "", refused(5, 0)),
+        ("09h, 5 before 7", 4, "00 04 00 FF 09 09 0F 08 00 00 F8 06 FF", "", refused(5, 1)),
+        ("09h, Min above Max", 4, "09 09 0F 08 00 00 06 F8 01", "", accepted(1, 0, 8, 8)),
+        ("0Ah", 4, "0A 09 0F 08 00 00 F8 06 02", "", accepted(1, 0, 8, 8)),
+        ("0Ah, Length 8", 4, "0A 08 0F 08 00 00 F8 06", "", refused(2, 0)),
+        ("0Ah in RO", 4, "", "0A 09 0F 08 00 00 F8 06 02", refused(3, 0)),
+        ("0Ah, MemoryLength 7", 4, "0A 09 0F 07 00 00 F8 06 02", "", refused(4, 0)),
+        ("0Ah, step 0", 4, "0A 09 0F 08 00 00 F8 06 00", "", refused(5, 0)),
+        ("0Ah, step 5", 4, "0A 09 0F 08 00 00 F8 06 05", "", refused(5, 0)),
+        ("0Bh", 4, "0B 05 0F 01 00", "", accepted(1, 0, 1, 1)),
+        ("0Bh, Length 4", 4, "0B 04 0F 01", "", refused(2, 0)),
+        ("0Bh in RO", 4, "", "0B 05 0F 01 00", refused(3, 0)),
+        ("0Bh, MemoryLength 0", 4, "0B 05 0F 00 00", "", refused(4, 0)),
+        ("0Bh has no step", 4, "0B 09 0F 01 00 FF FF FF FF", "", accepted(1, 0, 1, 1)),
+        ("0Ch", 4, "0C 05 0F 01 00", "", accepted(1, 0, 1, 1)),
+        ("0Ch, Length 4", 4, "0C 04 0F 01", "", refused(2, 0)),
+        ("0Ch in RO", 4, "", "0C 05 0F 01 00", refused(3, 0)),
+        ("0Ch, MemoryLength 0", 4, "0C 05 0F 00 00", "", refused(4, 0)),
+        ("0Dh", 4, "0D 09 0F 08 00 FF 06 F8 00", "", accepted(1, 0, 8, 8)),
+        ("0Dh, Length 8", 4, "0D 08 0F 08 00 FF 06 F8", "", refused(2, 0)),
+        ("0Dh in RO", 4, "", "0D 09 0F 08 00 FF 06 F8 00", refused(3, 0)),
+        ("0Dh, MemoryLength 7", 4, "0D 09 0F 07 00 FF 06 F8 00", "", refused(4, 0)),
+        ("0Dh, step 3", 4, "0D 09 0F 08 00 FF 06 F8 03", "", accepted(1, 0, 8, 8)),
+        ("0Dh, step 4", 4, "0D 09 0F 08 00 FF 06 F8 04", "", refused(5, 0)),
+        ("0Dh, Max below Min", 4, "0D 09 0F 08 00 FF F8 06 00", "", accepted(1, 0, 8, 8)),
+        ("0Dh, two indexes", 4, "0D 09 0F 08 00 FF 06 F8 00 0D 09 0F 08 00 01 06 F8 01", "", accepted(2, 0, 16, 16)),
+        ("0Dh, one index twice", 4, "0D 09 0F 08 00 FF 06 F8 00 0D 09 0F 08 00 FF 0A 05 03", "", accepted(2, 0, 16, 16)),
+        ("0Eh", 4, "0E 07 0F 04 00 00 00", "", accepted(1, 0, 4, 4)),
+        ("0Eh, Length 6", 4, "0E 06 0F 04 00 00", "", refused(2, 0)),
+        ("0Eh in RO", 4, "", "0E 07 0F 04 00 00 00", refused(3, 0)),
+        ("0Eh, MemoryLength 3", 4, "0E 07 0F 03 00 00 00", "", refused(4, 0)),
+        ("0Eh has no step", 4, "0E 09 0F 04 00 00 00 FF FF", "", accepted(1, 0, 4, 4)),
+        ("a media 09h counts for check 6", 4, "09 09 00 08 01 00 F8 06 01 02 05 00 01 00", "", refused(6, 1)),
+        ("a media 0Ah", 4, "0A 09 00 08 01 00 F8 06 01 03 05 00 02 00", "", refused(6, 1)),
+        ("a media 0Bh", 4, "0B 05 00 01 01 04 07 00 04 00 00 00", "", refused(6, 1)),
+        ("a media 0Ch", 4, "0C 05 00 01 01 05 05 00 01 00", "", refused(6, 1)),
+        ("a media 0Dh", 4, "0D 09 00 08 01 00 06 F8 01 07 08 00 08 00 00 00 00", "", refused(6, 1)),
+        ("a media 0Eh", 4, "0E 07 00 04 01 00 00 08 07 00 04 00 00 00", "", refused(6, 1)),
+        ("a host 09h with other flags doesn't", 4, "09 09 00 08 FE 00 F8 06 01 02 05 00 01 00", "", accepted(2, 0, 9, 9)),
+        ("host-side 09h to 0Eh after a media 06h", 4,
+         "06 05 00 01 01 09 09 00 08 00 00 00 00 01 0A 09 00 08 00 00 00 00 01 0B 05 00 01 00 0C 05 00 01 00 \
+          0D 09 00 08 00 00 00 00 01 0E 07 00 04 00 00 00", "", accepted(7, 0, 31, 31)),
+        ("host-side 0Dh after a media 0Dh", 4,
+         "0D 09 00 08 01 00 00 00 01 0D 09 00 08 00 00 00 00 01", "", accepted(2, 0, 16, 16)),
+    ]
+}
+
+/// Name, RW in hex, a value for its first entry, and the refusal of its write, 0 for none; for count 4.
+#[rustfmt::skip]
+fn values() -> Vec<(&'static str, &'static str, i64, usize)> {
+    const NUMERIC_TX: &str = "09 09 0F 08 00 00 F8 06 01";
+    const NUMERIC_RX: &str = "0A 09 0F 08 00 00 F8 06 01";
+    const CURSOR: &str = "0D 09 0F 08 00 FF 06 F8 01";
+    vec![
+        ("09h, Min - 1", NUMERIC_TX, -9, 12),
+        ("09h, Min", NUMERIC_TX, -8, 0),
+        ("09h, 0", NUMERIC_TX, 0, 0),
+        ("09h, Max", NUMERIC_TX, 6, 0),
+        ("09h, Max + 1", NUMERIC_TX, 7, 12),
+        ("09h, Min as a pattern", NUMERIC_TX, 248, 12),
+        ("09h, Min above Max", "09 09 0F 08 00 00 06 F8 01", 0, 12),
+        ("09h, Min above Max, its Min", "09 09 0F 08 00 00 06 F8 01", 6, 12),
+        ("09h, the step doesn't scale", "09 09 0F 08 00 00 F8 06 04", 6, 0),
+        ("0Ah, Min - 1", NUMERIC_RX, -9, 12),
+        ("0Ah, Min", NUMERIC_RX, -8, 0),
+        ("0Ah, Max", NUMERIC_RX, 6, 0),
+        ("0Ah, Max + 1", NUMERIC_RX, 7, 12),
+        ("0Dh, Min - 1", CURSOR, -9, 12),
+        ("0Dh, Min", CURSOR, -8, 0),
+        ("0Dh, Max", CURSOR, 6, 0),
+        ("0Dh, Max + 1", CURSOR, 7, 12),
+        ("0Dh, Min as a pattern", CURSOR, 248, 12),
+        ("0Dh, Min above Max", "0D 09 0F 08 00 FF F8 06 01", 0, 12),
+        ("0Dh, -128", "0D 09 0F 08 00 FF 7F 80 00", -128, 0),
+        ("0Dh, -129", "0D 09 0F 08 00 FF 7F 80 00", -129, 12),
+        ("0Dh, 127", "0D 09 0F 08 00 FF 7F 80 00", 127, 0),
+        ("0Dh, 128", "0D 09 0F 08 00 FF 7F 80 00", 128, 12),
+        ("0Dh without 0", "0D 09 0F 08 00 00 64 32 00", 0, 12),
+        ("0Dh of one number", "0D 09 0F 08 00 00 F2 F2 00", -14, 0),
+        ("0Bh, 1", "0B 05 0F 01 00", 1, 0),
+        ("0Bh, 2", "0B 05 0F 01 00", 2, 12),
+        ("0Ch, 1", "0C 05 0F 01 00", 1, 0),
+        ("0Ch, -1", "0C 05 0F 01 00", -1, 12),
+        ("0Eh, 9 in the mask", "0E 07 0F 04 00 03 FF", 9, 0),
+        ("0Eh, 10 not in the mask", "0E 07 0F 04 00 03 FF", 10, 12),
+        ("0Eh, 15 in the mask", "0E 07 0F 04 00 80 00", 15, 0),
+        ("0Eh, 16", "0E 07 0F 04 00 FF FF", 16, 12),
+        ("0Eh, -1", "0E 07 0F 04 00 FF FF", -1, 12),
     ]
 }
 

@@ -36,10 +36,12 @@ pub const PERFORM: Numbers = any(&[SELECT, WRITE, READ, BYTE_WRITE, BYTE_READ, P
 pub const UNKNOWN_KIND: Numbers = FRESH.without(0).and(&[10]);
 pub const WEIGHT: Numbers = FRESH.and(&[10]);
 
-// What the last checks of a call can answer: whether a field is there, whether its value is accepted, the chosen lanes.
+// What the last checks of a call can answer: whether a field is there, whether its value is accepted, the chosen lanes, a
+// field to be copied.
 pub const FIELD: Numbers = ACCEPTED.and(&[10, 11]);
 pub const VALUE: Numbers = ACCEPTED.and(&[12]);
 pub const LANES: Numbers = ACCEPTED.and(&LANE_CHECKS);
+pub const COPIED: Numbers = ACCEPTED.and(&[14]);
 
 // What an entry can be refused with whatever its ID: in either string, in one that it belongs to, in the other.
 const ANY_ENTRY: Numbers = only(&[1, 2]);

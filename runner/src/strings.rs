@@ -2,7 +2,7 @@
 
 use crate::case::Case;
 use crate::random::Random;
-use crate::shape::{mask_bytes, shape, RW_OPAQUE, TABLE};
+use crate::shape::{self, mask_bytes, shape, BASE_TABLE, LINEAR_TABLE, RW_OPAQUE, TABLE};
 
 pub const RW: usize = 0;
 pub const RO: usize = 1;
@@ -15,12 +15,16 @@ pub const LARGEST: usize = 256;
 #[derive(Clone)]
 pub struct Strings {
     pub count: usize,
+    /// The IDs of the table that are drawn, by string.
+    pub table: [&'static [u8]; 2],
     pub entries: [Vec<Vec<u8>>; 2],
 }
 
 impl Strings {
-    pub fn new(count: usize) -> Strings {
-        Strings { count, entries: [Vec::new(), Vec::new()] }
+    /// No entry yet. Two maps in five are to have no ID of note 1.
+    pub fn new(random: &Random, count: usize) -> Strings {
+        let table = random.pick(&[BASE_TABLE, BASE_TABLE, TABLE, TABLE, LINEAR_TABLE]);
+        Strings { count, table, entries: [Vec::new(), Vec::new()] }
     }
 
     pub fn a(&self) -> usize {
@@ -34,10 +38,6 @@ impl Strings {
 
     pub fn flags_at(&self) -> usize {
         3 + self.a()
-    }
-
-    pub fn step_at(&self) -> usize {
-        5 + self.a()
     }
 
     pub fn size(&self, string: usize) -> usize {
@@ -66,6 +66,27 @@ impl Strings {
         self.entries[RW].iter().any(|entry| TABLE[RW].contains(&entry[0]) && entry[self.flags_at()] & 1 == 1)
     }
 
+    /// An ID that may stand in the string: of the table, 00h, or opaque.
+    pub fn right_id(&self, random: &Random, string: usize) -> u8 {
+        match random.below(20) {
+            0..=12 => random.pick(self.table[string]),
+            13 | 14 => 0x00,
+            15 if string == RW => RW_OPAQUE,
+            _ => high_opaque(random),
+        }
+    }
+
+    /// An ID that may not stand in the string.
+    pub fn wrong_id(&self, random: &Random, string: usize) -> u8 {
+        if string == RW {
+            random.pick(self.table[RO])
+        } else if random.once_in(8) {
+            RW_OPAQUE
+        } else {
+            random.pick(self.table[RW])
+        }
+    }
+
     pub fn flat(&self) -> Flat {
         Flat { count: self.count, strings: [self.entries[RW].concat(), self.entries[RO].concat()] }
     }
@@ -81,27 +102,6 @@ pub struct Flat {
 impl Flat {
     pub fn case(&self) -> Case<'_> {
         Case { count: self.count, rw: &self.strings[RW], ro: &self.strings[RO] }
-    }
-}
-
-/// An ID that may stand in the string: of the table, 00h, or opaque.
-pub fn right_id(random: &Random, string: usize) -> u8 {
-    match random.below(10) {
-        0..=5 => random.pick(TABLE[string]),
-        6 => 0x00,
-        7 if string == RW => random.pick(&RW_OPAQUE),
-        _ => high_opaque(random),
-    }
-}
-
-/// An ID that may not stand in the string.
-pub fn wrong_id(random: &Random, string: usize) -> u8 {
-    if string == RW {
-        random.pick(TABLE[RO])
-    } else if random.once_in(3) {
-        random.pick(&RW_OPAQUE)
-    } else {
-        random.pick(TABLE[RW])
     }
 }
 
@@ -128,10 +128,32 @@ pub fn good_entry(random: &Random, count: usize, id: u8, media: bool) -> Vec<u8>
     if let Some(flags) = entry.get_mut(3 + a) {
         *flags = *flags & 0xFE | u8::from(media);
     }
-    if id == 0x12 {
-        entry[5 + a] = random.below(4) as u8;
+    if let Some((at, first)) = shape::step(id) {
+        entry[at + a] = first + random.below(4) as u8;
+    }
+    if let Some([min_at, max_at]) = shape::range(id) {
+        // The index, which may recur, or EqualizerTarget.
+        entry[4 + a] = random.pick(&[0xFF, 0, 1, random.byte()]);
+        let [min, max] = range(random);
+        entry[min_at + a] = min as u8;
+        entry[max_at + a] = max as u8;
     }
     entry
+}
+
+/// Min and Max: most often across 0; else whole, of one number, empty, above 0, below 0 or any.
+fn range(random: &Random) -> [i8; 2] {
+    let any = [random.byte() as i8, random.byte() as i8];
+    let sorted = |[one, other]: [i8; 2]| [one.min(other), one.max(other)];
+    match random.below(12) {
+        0 => [i8::MIN, i8::MAX],
+        1 => [any[0], any[0]],
+        2 => [sorted(any)[1], sorted(any)[0]],
+        3 => sorted(any.map(|number| number & i8::MAX)),
+        4 => sorted(any.map(|number| number | i8::MIN)),
+        5 => any,
+        _ => [any[0] | i8::MIN, any[1] & i8::MAX],
+    }
 }
 
 /// A MemoryLength of at least the need.

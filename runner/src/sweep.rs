@@ -1,19 +1,26 @@
-//! Every ID in both strings and with both mask sizes, each of its numbers at and beside its limit.
+//! Every ID in both strings and with both mask sizes, each of its numbers at and beside its limit; every step; every ID of
+//! the table after every other; every byte of a map with all of them.
 
-use crate::shape::{mask_bytes, shape};
+use crate::fixed::{hex, WHOLE};
+use crate::shape::{self, mask_bytes, shape};
 use crate::strings::{Flat, RO, RW};
 
 /// Hands each map of the sweep to `take`.
 pub fn sweep(mut take: impl FnMut(&Flat)) {
     for count in [8, 9] {
         for string in [RW, RO] {
-            for before in [0x00, 0x01, 0x0F, 0x07] {
+            for before in [0x00, 0x01, 0x0F, 0x07, 0x0D] {
                 for id in 0..=0xFF {
                     each_entry(count, id, |entry| take(&alone(count, string, before, entry)));
                 }
             }
+            for id in 0..=0xFF {
+                each_step(count, id, |entry| take(&alone(count, string, 0x0B, entry)));
+            }
         }
+        each_pair(count, &mut take);
     }
+    each_byte(&mut take);
 }
 
 /// The entries of one ID: Length, MemoryLength and step below, at and above the limit, host and media side.
@@ -24,26 +31,74 @@ fn each_entry(count: usize, id: u8, mut take: impl FnMut(&[u8])) {
     for length in [least - 1, least, least + 3] {
         for memory in [needed.saturating_sub(1), needed, needed + 1] {
             for last in [2, 3, 4, 5] {
-                let mut entry = vec![last; length];
-                entry[0] = id;
-                entry[1] = length as u8;
-                if let Some(byte) = entry.get_mut(2 + a) {
-                    *byte = memory;
-                }
+                take(&filled(a, id, length, memory, last));
+            }
+        }
+    }
+}
+
+/// The entries of an ID with a step, for every step code, at the least Length and above. The bytes about it are as a step is
+/// that is accepted or reserved, so that one read at another place shows.
+fn each_step(count: usize, id: u8, mut take: impl FnMut(&[u8])) {
+    let a = mask_bytes(count);
+    let Some((at, _)) = shape::step(id) else { return };
+    for length in [shape(id).least + a, shape(id).least + a + 2] {
+        for other in [0, 1, 4, 5, 0xFF] {
+            for step in 0..=0xFF {
+                let mut entry = filled(a, id, length, shape(id).needed, other);
+                entry[at + a] = step;
                 take(&entry);
             }
         }
     }
 }
 
+/// Every ID to 13h after every other, each on both sides.
+fn each_pair(count: usize, take: &mut impl FnMut(&Flat)) {
+    let a = mask_bytes(count);
+    let entry = |id: u8, side: u8| {
+        let mut entry = filled(a, id, shape(id).least.max(4) + a, shape(id).needed, 1);
+        entry[3 + a] = 0xFE | side;
+        entry
+    };
+    for (first, second) in (0x00..=0x13).flat_map(|first| (0x00..=0x13).map(move |second| (first, second))) {
+        for sides in 0..4 {
+            let pair = [entry(first, sides & 1), entry(second, sides >> 1)];
+            take(&Flat { count, strings: [pair.concat(), Vec::new()] });
+            take(&Flat { count, strings: pair });
+        }
+    }
+}
+
+/// A map with every ID of the table, for every value of every byte of both strings.
+fn each_byte(take: &mut impl FnMut(&Flat)) {
+    let map = Flat { count: 4, strings: WHOLE.map(hex) };
+    for string in [RW, RO] {
+        for at in 0..map.strings[string].len() {
+            for byte in 0..=0xFF {
+                let mut map = map.clone();
+                map.strings[string][at] = byte;
+                take(&map);
+            }
+        }
+    }
+}
+
+/// An entry with this byte wherever no other is named.
+fn filled(a: usize, id: u8, length: usize, memory: u8, byte: u8) -> Vec<u8> {
+    let mut entry = vec![byte; length];
+    entry[0] = id;
+    entry[1] = length as u8;
+    if let Some(place) = entry.get_mut(2 + a) {
+        *place = memory;
+    }
+    entry
+}
+
 /// The entry in its string, after an RW entry with the ID `before` and an odd last byte, and before nothing.
 fn alone(count: usize, string: usize, before: u8, entry: &[u8]) -> Flat {
     let a = mask_bytes(count);
-    let mut first = vec![1; shape(before).least.max(4) + a];
-    first[0] = before;
-    first[1] = first.len() as u8;
-    first[2 + a] = shape(before).needed;
-    let mut strings = [first, Vec::new()];
+    let mut strings = [filled(a, before, shape(before).least.max(4) + a, shape(before).needed, 1), Vec::new()];
     strings[string].extend(entry);
     Flat { count, strings }
 }

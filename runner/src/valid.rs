@@ -1,10 +1,11 @@
 //! Maps that the load accepts: every count, few or many entries, full strings, sums up to exactly 256.
 
 use crate::random::Random;
-use crate::strings::{good_entry, high_opaque, right_id, Strings, LARGEST, LONGEST, RO, RW};
+use crate::shape::shape;
+use crate::strings::{good_entry, high_opaque, Strings, LARGEST, LONGEST, RO, RW};
 
 pub fn valid(random: &Random) -> Strings {
-    let mut strings = Strings::new(good_count(random));
+    let mut strings = Strings::new(random, good_count(random));
     for string in [RW, RO] {
         let room = random.pick(&[0, 12, 40, 80, LONGEST, LONGEST, LONGEST]);
         if random.once_in(6) {
@@ -37,10 +38,10 @@ pub fn good_count(random: &Random) -> usize {
 /// Adds an entry if it leaves the string within its room, the sum within 256 and check 6 content.
 fn add_entry(random: &Random, strings: &mut Strings, string: usize, room: usize) {
     let repeated = strings.entries[string].last().filter(|_| random.once_in(6)).map(|entry| entry[0]);
-    let id = repeated.unwrap_or_else(|| right_id(random, string));
+    let id = repeated.unwrap_or_else(|| strings.right_id(random, string));
     let must_be_media = strings.has_media() && (0x02..=0x08).contains(&id);
-    let opaque = !matches!(id, 0x02..=0x08 | 0x0F..=0x12);
-    let media = must_be_media || random.once_in(if opaque { 2 } else { 8 });
+    let has_fields = shape(id).needed > 0;
+    let media = must_be_media || random.once_in(if has_fields { 8 } else { 2 });
     let entry = good_entry(random, strings.count, id, media);
     let fits = strings.size(string) + entry.len() <= room;
     if fits && strings.sum() + strings.memory(&entry) <= LARGEST {

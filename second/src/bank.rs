@@ -142,8 +142,8 @@ pub fn weight(
 ) -> Result<i64, Refusal> {
     let map = read_with_bank(count, rw, ro, bank)?;
     let found = judge::entry_10(&map, entry)?;
-    // 10: "weight of other than 12h"; only 12h has a step.
-    let step = found.step.ok_or(Refusal::caller(10))?;
+    // 10: "weight of other than 12h"; 09h, 0Ah and 0Dh have a step too.
+    let step = found.step.filter(|_| found.info.id == 0x12).ok_or(Refusal::caller(10))?;
     judge::field_10(&map, entry, 0, lane)?;
     let number = expand(&map, bank).numbers[&(2, entry, 0, lane)];
     let factor = match step {
@@ -271,8 +271,9 @@ fn perform_on(map: &Map, bank: &mut [u8], call: Call) -> Result<Answer, Refusal>
             }
 
             // "each RW field whose entry's mask has the lane's AppSel is
-            // copied to the active set"; 14: "a field to be copied holds a
-            // value not accepted". Lanes rise, so the first is the lowest.
+            // copied to the active set"; note 1: "Apply copies their numbers
+            // unscaled." 14: "a field to be copied holds a value not
+            // accepted". Lanes rise, so the first is the lowest.
             let mut copies = Vec::new();
             for lane in chosen() {
                 let app = all.appsels[&(set, lane)];

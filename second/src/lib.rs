@@ -1,5 +1,7 @@
 //! A second, independent rendering of the paper "The versatile control set:
-//! maps, banks and applied settings". Words in quotes are the paper's.
+//! maps, banks and applied settings", with note 1 of its change requests, "The
+//! numeric parameters". Words in quotes are the paper's, or note 1's or the
+//! agreement's where these are named.
 //!
 //! Method: both strings are read completely into a list of entries, or the
 //! refusal (`map`). The map is then expanded into one owner for every bit of a

@@ -20,13 +20,20 @@ pub enum Side {
     Either,
 }
 
-/// "the extras named in the table", in the order they are named.
+/// "the extras named in the table", in the order they are named. Those of 09h,
+/// 0Ah and 0Dh stand as the agreement's descriptor tables have them: note 1,
+/// "Read them as sections 5.11 to 5.16 of source document 002 give their
+/// attributes, widths and ranges".
 #[derive(Clone, Copy, Debug, PartialEq, Eq)]
 pub enum Extras {
     None,
     CodeMask,
     IndexCodeMask,
     IndexStep,
+    /// Tables 5-24 and 5-26: EqualizerTarget, Min, Max, StepSize.
+    TargetMinMaxStep,
+    /// Table 5-33: PrePostCursorIndex, Max, Min, StepSize; Max stands first.
+    IndexMaxMinStep,
 }
 
 /// One line of the table, or one of the two kinds without fields.
@@ -42,55 +49,68 @@ pub struct Row {
     /// The least Length is this + A.
     pub least: usize,
     pub extras: Extras,
-    /// "A field of 11h or 12h holds a two's complement number".
+    /// The step codes that are not reserved, both ends in; None without a step.
+    pub steps: Option<(u8, u8)>,
+    /// "A field of 11h or 12h holds a two's complement number"; note 1: "A
+    /// field with a signed range holds a two's complement number, as 11h does."
     pub signed: bool,
-    /// Accepted values as ranges, both ends in; a code mask comes on top.
+    /// Accepted values as ranges, both ends in; a code mask, or Min and Max,
+    /// come on top.
     pub accepted: &'static [(i64, i64)],
 }
 
-/// The classes of IDs; the rows stand in this order.
+/// The classes of IDs; the rows stand in this order. 09h to 0Eh by note 1:
+/// "They join the table of document 01", "parts in the order of their register
+/// tables", which have one line each. 0Bh and 0Ch have the line of 02h, 0Eh that
+/// of 04h.
 #[derive(Clone, Copy, Debug, PartialEq, Eq)]
 enum Class {
-    Id02h05h06h,
+    Id02h05h06h0Bh0Ch,
     Id03h,
-    Id04h,
+    Id04h0Eh,
     Id07h,
     Id08h,
+    Id09h0Ah,
+    Id0Dh,
     Id0Fh10h,
     Id11h,
     Id12h,
     /// 00h and 13h to FFh, "in either string".
     SpaceInEither,
-    /// 01h and 09h to 0Eh, opaque: "01h to 10h only in RW".
+    /// 01h, opaque: "01h to 10h only in RW".
     SpaceInRw,
 }
 
 #[rustfmt::skip]
-const ROWS: [Row; 10] = [
-    Row { in_table: true, side: Side::Rw, parts: 1, width: 1, needed: 1, least: 4, extras: Extras::None, signed: false, accepted: &[(0, 1)] },
-    Row { in_table: true, side: Side::Rw, parts: 1, width: 2, needed: 2, least: 4, extras: Extras::None, signed: false, accepted: &[(0, 2)] },
-    Row { in_table: true, side: Side::Rw, parts: 1, width: 4, needed: 4, least: 6, extras: Extras::CodeMask, signed: false, accepted: &[(0, 15)] },
-    Row { in_table: true, side: Side::Rw, parts: 2, width: 4, needed: 8, least: 7, extras: Extras::IndexCodeMask, signed: false, accepted: &[(0, 7), (11, 15)] },
-    Row { in_table: true, side: Side::Rw, parts: 1, width: 4, needed: 4, least: 6, extras: Extras::CodeMask, signed: false, accepted: &[(0, 3), (15, 15)] },
-    Row { in_table: true, side: Side::Rw, parts: 1, width: 8, needed: 8, least: 4, extras: Extras::None, signed: false, accepted: &[(0, 255)] },
-    Row { in_table: true, side: Side::Ro, parts: 2, width: 8, needed: 16, least: 4, extras: Extras::None, signed: true, accepted: &[(-128, 127)] },
-    Row { in_table: true, side: Side::Ro, parts: 1, width: 8, needed: 8, least: 6, extras: Extras::IndexStep, signed: true, accepted: &[(-128, 127)] },
-    Row { in_table: false, side: Side::Either, parts: 0, width: 0, needed: 0, least: 3, extras: Extras::None, signed: false, accepted: &[] },
-    Row { in_table: false, side: Side::Rw, parts: 0, width: 0, needed: 0, least: 3, extras: Extras::None, signed: false, accepted: &[] },
+const ROWS: [Row; 12] = [
+    Row { in_table: true, side: Side::Rw, parts: 1, width: 1, needed: 1, least: 4, extras: Extras::None, steps: None, signed: false, accepted: &[(0, 1)] },
+    Row { in_table: true, side: Side::Rw, parts: 1, width: 2, needed: 2, least: 4, extras: Extras::None, steps: None, signed: false, accepted: &[(0, 2)] },
+    Row { in_table: true, side: Side::Rw, parts: 1, width: 4, needed: 4, least: 6, extras: Extras::CodeMask, steps: None, signed: false, accepted: &[(0, 15)] },
+    Row { in_table: true, side: Side::Rw, parts: 2, width: 4, needed: 8, least: 7, extras: Extras::IndexCodeMask, steps: None, signed: false, accepted: &[(0, 7), (11, 15)] },
+    Row { in_table: true, side: Side::Rw, parts: 1, width: 4, needed: 4, least: 6, extras: Extras::CodeMask, steps: None, signed: false, accepted: &[(0, 3), (15, 15)] },
+    Row { in_table: true, side: Side::Rw, parts: 1, width: 8, needed: 8, least: 8, extras: Extras::TargetMinMaxStep, steps: Some((1, 4)), signed: true, accepted: &[(-128, 127)] },
+    Row { in_table: true, side: Side::Rw, parts: 1, width: 8, needed: 8, least: 8, extras: Extras::IndexMaxMinStep, steps: Some((0, 3)), signed: true, accepted: &[(-128, 127)] },
+    Row { in_table: true, side: Side::Rw, parts: 1, width: 8, needed: 8, least: 4, extras: Extras::None, steps: None, signed: false, accepted: &[(0, 255)] },
+    Row { in_table: true, side: Side::Ro, parts: 2, width: 8, needed: 16, least: 4, extras: Extras::None, steps: None, signed: true, accepted: &[(-128, 127)] },
+    Row { in_table: true, side: Side::Ro, parts: 1, width: 8, needed: 8, least: 6, extras: Extras::IndexStep, steps: Some((0, 3)), signed: true, accepted: &[(-128, 127)] },
+    Row { in_table: false, side: Side::Either, parts: 0, width: 0, needed: 0, least: 3, extras: Extras::None, steps: None, signed: false, accepted: &[] },
+    Row { in_table: false, side: Side::Rw, parts: 0, width: 0, needed: 0, least: 3, extras: Extras::None, steps: None, signed: false, accepted: &[] },
 ];
 
 fn class(id: u8) -> Class {
     match id {
-        0x02 | 0x05 | 0x06 => Class::Id02h05h06h,
+        0x02 | 0x05 | 0x06 | 0x0B | 0x0C => Class::Id02h05h06h0Bh0Ch,
         0x03 => Class::Id03h,
-        0x04 => Class::Id04h,
+        0x04 | 0x0E => Class::Id04h0Eh,
         0x07 => Class::Id07h,
         0x08 => Class::Id08h,
+        0x09 | 0x0A => Class::Id09h0Ah,
+        0x0D => Class::Id0Dh,
         0x0F | 0x10 => Class::Id0Fh10h,
         0x11 => Class::Id11h,
         0x12 => Class::Id12h,
         0x00 | 0x13..=0xFF => Class::SpaceInEither,
-        0x01 | 0x09..=0x0E => Class::SpaceInRw,
+        0x01 => Class::SpaceInRw,
     }
 }
 
@@ -114,11 +134,14 @@ pub struct Entry {
     /// flags are not read.
     pub media: bool,
     pub code_mask: Option<u16>,
+    /// Min and Max of 09h, 0Ah and 0Dh; Min may be above Max.
+    pub range: Option<(i64, i64)>,
     pub step: Option<u8>,
 }
 
 impl Entry {
-    /// The column "accepted values", "if in the mask" where there is one.
+    /// The column "accepted values", "if in the mask" where there is one, and
+    /// from Min to Max, both in, where these stand. Min above Max accepts none.
     pub fn accepts(&self, value: i64) -> bool {
         let in_table = self.row.accepted.iter().any(|&(low, high)| low <= value && value <= high);
         let in_mask = match self.code_mask {
@@ -126,7 +149,8 @@ impl Entry {
             // "value v is in it if bit v is 1"
             Some(mask) => (0..16).contains(&value) && (mask >> value) & 1 == 1,
         };
-        in_table && in_mask
+        let in_range = self.range.is_none_or(|(min, max)| min <= value && value <= max);
+        in_table && in_mask && in_range
     }
 
     /// "each RW field whose entry's mask has the lane's AppSel"
@@ -259,24 +283,35 @@ fn decode(count: usize, string: &[u8], in_ro: bool, piece: Piece, before: &[Entr
 
     // PropertyFlags, then the extras; check 2 has them all inside the entry.
     let two = |at: usize| u16::from(bytes[at]) << 8 | u16::from(bytes[at + 1]);
+    let signed = |at: usize| i64::from(bytes[at] as i8);
     let media = row.in_table && bytes[3 + a] & 1 == 1;
     let code_mask = match row.extras {
         Extras::CodeMask => Some(two(4 + a)),
         Extras::IndexCodeMask => Some(two(5 + a)),
         Extras::None | Extras::IndexStep => None,
+        Extras::TargetMinMaxStep | Extras::IndexMaxMinStep => None,
+    };
+    // Min and Max are "S8" in the agreement.
+    let range = match row.extras {
+        Extras::TargetMinMaxStep => Some((signed(5 + a), signed(6 + a))),
+        Extras::IndexMaxMinStep => Some((signed(6 + a), signed(5 + a))),
+        Extras::None | Extras::CodeMask | Extras::IndexCodeMask | Extras::IndexStep => None,
     };
     let step = match row.extras {
         Extras::IndexStep => Some(bytes[5 + a]),
+        Extras::TargetMinMaxStep | Extras::IndexMaxMinStep => Some(bytes[7 + a]),
         Extras::None | Extras::CodeMask | Extras::IndexCodeMask => None,
     };
 
-    // 5: "step above 3"
-    if step.is_some_and(|step| step > 3) {
+    // 5: "step above 3"; note 1: "5 (a reserved step code)". The other extras
+    // may hold anything.
+    if step.zip(row.steps).is_some_and(|(step, (low, high))| step < low || step > high) {
         return Decoded::Refused(5);
     }
 
     // 6: "an ID of 02h to 08h, host side, after a media-side table entry of
-    // the RW string". `media` is set for table entries alone.
+    // the RW string". `media` is set for table entries alone, those of note 1
+    // too: "6 only as the earlier media-side entry".
     if (0x02..=0x08).contains(&id) && !media && before.iter().any(|e| !e.info.in_ro && e.media) {
         return Decoded::Refused(6);
     }
@@ -296,7 +331,7 @@ fn decode(count: usize, string: &[u8], in_ro: bool, piece: Piece, before: &[Entr
     }
 
     let info = EntryInfo { id, start, length, offset, memory, in_ro };
-    Decoded::Entry(Entry { info, row, apps, media, code_mask, step })
+    Decoded::Entry(Entry { info, row, apps, media, code_mask, range, step })
 }
 
 impl Map {

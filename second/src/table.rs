@@ -12,7 +12,8 @@ use crate::map::{Entry, Map};
 use crate::{Answer, Call, Refusal};
 
 /// "a number for each set, entry, part and lane that the set holds (staged: RW
-/// only), and an AppSel for each staged set and lane".
+/// only), and an AppSel for each staged set and lane". Note 1: "The plain table
+/// holds their numbers too".
 #[derive(Clone, Debug)]
 pub struct Table {
     map: Map,
@@ -185,6 +186,7 @@ impl Table {
                 self.numbers.insert((2, entry, part, lane), value);
                 Answer::Yes
             }
+            // Note 1: "Apply copies their numbers unscaled."
             Call::Apply { set, lanes } => {
                 for (entry, part, lane) in self.to_be_copied(set, lanes) {
                     let number = self.numbers[&(set, entry, part, lane)];

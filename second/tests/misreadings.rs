@@ -7,9 +7,9 @@ use second::*;
 /// "Skipping an opaque entry without its space."
 #[test]
 fn opaque_takes_its_space() {
-    let rw = [entry(0x0A, 0, 7, &[1, 2, 3]), entry(0x01, 0, 0, &[]), entry(0x0F, 1, 8, &[0])].concat();
+    let rw = [entry(0x13, 0, 7, &[1, 2, 3]), entry(0x01, 0, 0, &[]), entry(0x0F, 1, 8, &[0])].concat();
     let list = entries(2, &rw, &[]).unwrap();
-    let first = EntryInfo { id: 0x0A, start: 0, length: 7, offset: 0, memory: 7, in_ro: false };
+    let first = EntryInfo { id: 0x13, start: 0, length: 7, offset: 0, memory: 7, in_ro: false };
     let second = EntryInfo { id: 0x01, start: 7, length: 4, offset: 7, memory: 0, in_ro: false };
     let third = EntryInfo { id: 0x0F, start: 11, length: 5, offset: 7, memory: 8, in_ro: false };
     assert_eq!(list, [first, second, third]);
@@ -97,11 +97,12 @@ fn apply_copies_every_lane_and_part() {
     }
 }
 
-/// Every accepted value of every ID, by the paper's table.
+/// Every accepted value of every ID, by the paper's table; 09h, 0Ah and 0Dh
+/// stand with the numeric parameters.
 #[test]
 fn accepted_values() {
     type Case = (u8, u8, &'static [u8], fn(i64) -> bool);
-    let cases: [Case; 9] = [
+    let cases: [Case; 12] = [
         (0x02, 1, &[0], |v| (0..=1).contains(&v)),
         (0x05, 1, &[0], |v| (0..=1).contains(&v)),
         (0x06, 1, &[0], |v| (0..=1).contains(&v)),
@@ -109,6 +110,9 @@ fn accepted_values() {
         (0x04, 4, &[0, 0xFF, 0xFF], |v| (0..=15).contains(&v)),
         (0x07, 8, &[0, 0, 0x48, 0x81], |v| [0, 7, 11, 14].contains(&v)),
         (0x08, 4, &[0, 0xC0, 0x1A], |v| [1, 3, 15].contains(&v)),
+        (0x0B, 1, &[0], |v| (0..=1).contains(&v)),
+        (0x0C, 1, &[0], |v| (0..=1).contains(&v)),
+        (0x0E, 4, &[0, 0x84, 0x21], |v| [0, 5, 10, 15].contains(&v)),
         (0x0F, 8, &[0], |v| (0..=255).contains(&v)),
         (0x10, 8, &[0], |v| (0..=255).contains(&v)),
     ];

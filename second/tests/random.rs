@@ -129,17 +129,12 @@ fn other_bits_keep_their_content() {
                                 let chosen = lanes >> (lane - 1) & 1 == 1;
                                 let copied = chosen && mask >> (app - 1) & 1 == 1;
                                 let from = if copied { 256 * set } else { 512 };
-                                let width = [1, 2, 4, 4, 1, 1, 4, 4, 8, 8][match info.id {
-                                    2 => 0,
-                                    3 => 1,
-                                    4 => 2,
-                                    7 => 3,
-                                    5 => 4,
-                                    6 => 5,
-                                    8 => 6,
-                                    0x0F => 8,
-                                    _ => 9,
-                                }];
+                                let width = match info.id {
+                                    2 | 5 | 6 | 0x0B | 0x0C => 1,
+                                    3 => 2,
+                                    4 | 7 | 8 | 0x0E => 4,
+                                    _ => 8,
+                                };
                                 let bits = ((1u16 << width) - 1) as u8;
                                 let was = before[from + byte] >> bit & bits;
                                 assert_eq!(bank[512 + byte] >> bit & bits, was);
@@ -181,11 +176,11 @@ fn place_and_owner_agree() {
                     continue;
                 }
                 let (parts, w) = match info.id {
-                    2 | 5 | 6 => (1, 1),
+                    2 | 5 | 6 | 0x0B | 0x0C => (1, 1),
                     3 => (1, 2),
-                    4 | 8 => (1, 4),
+                    4 | 8 | 0x0E => (1, 4),
                     7 => (2, 4),
-                    0x0F | 0x10 | 0x12 => (1, 8),
+                    9 | 0x0A | 0x0D | 0x0F | 0x10 | 0x12 => (1, 8),
                     0x11 => (2, 8),
                     _ => (0, 0),
                 };

@@ -4,12 +4,12 @@ mod common;
 use common::*;
 use second::*;
 
-/// An RW string of 02h, an opaque 0Ah of 3 bytes, 04h (0 to 12), 07h; an RO
+/// An RW string of 02h, an opaque 13h of 3 bytes, 04h (0 to 12), 07h; an RO
 /// string of 11h, an opaque FFh of 2 bytes, 12h. Entries 0 to 6.
 fn strings() -> (Vec<u8>, Vec<u8>) {
     let rw = [
         entry(0x02, 0x03, 1, &[0]),
-        entry(0x0A, 0xFF, 3, &[]),
+        entry(0x13, 0xFF, 3, &[]),
         entry(0x04, 0x01, 4, &[0, 0x1F, 0xFF]),
         entry(0x07, 0x07, 9, &[1, 0, 0xFF, 0xFF]),
     ];
@@ -76,9 +76,10 @@ fn least_length_and_string() {
     for id in 0..=255u8 {
         for (count, a) in [(1, 1), (8, 1), (9, 2), (15, 2)] {
             let least = a + match id {
-                0x04 | 0x08 | 0x12 => 6,
+                0x04 | 0x08 | 0x0E | 0x12 => 6,
                 0x07 => 7,
-                0x02 | 0x03 | 0x05 | 0x06 | 0x0F | 0x10 | 0x11 => 4,
+                0x09 | 0x0A | 0x0D => 8,
+                0x02 | 0x03 | 0x05 | 0x06 | 0x0B | 0x0C | 0x0F | 0x10 | 0x11 => 4,
                 _ => 3,
             };
             let bytes = |length: usize| {
@@ -86,6 +87,10 @@ fn least_length_and_string() {
                 bytes[..2].copy_from_slice(&[id, length as u8]);
                 if length > 2 + a {
                     bytes[2 + a] = 16;
+                }
+                // Step 0 is reserved in 09h and 0Ah.
+                if matches!(id, 0x09 | 0x0A) && length >= least {
+                    bytes[7 + a] = 1;
                 }
                 bytes
             };
@@ -107,17 +112,17 @@ fn least_length_and_string() {
 }
 
 /// 6: the media-side entry may be any table entry of RW; opaque ones have no
-/// flags; 0Fh and 10h may be host side at any place; the RO string has no 6.
+/// flags; 09h to 10h may be host side at any place; the RO string has no 6.
 #[test]
 fn media_before_host() {
     let of = |id: u8, side: u8| match id {
-        0x04 | 0x08 => entry(id, 0, 8, &[side, 0, 0]),
+        0x04 | 0x08 | 0x0E => entry(id, 0, 8, &[side, 0, 0]),
         0x07 => entry(id, 0, 8, &[side, 0, 0, 0]),
+        0x09 | 0x0A | 0x0D => entry(id, 0, 8, &[side, 0, 0, 0, 1]),
         _ => entry(id, 0, 8, &[side]),
     };
-    let table = [0x02, 0x03, 0x04, 0x05, 0x06, 0x07, 0x08, 0x0F, 0x10];
-    for first in table {
-        for second in table {
+    for first in 0x02..=0x10 {
+        for second in 0x02..=0x10 {
             for (one, two) in [(0, 0), (0, 1), (1, 0), (1, 1), (0xFE, 0xFE), (0xFF, 0xFE)] {
                 let rw = [of(first, one), entry(0, 0, 0, &[]), of(second, two)].concat();
                 let wrong = one & 1 == 1 && two & 1 == 0 && second <= 0x08;
@@ -130,7 +135,7 @@ fn media_before_host() {
         let said = if first <= 0x08 { Err(maker(6, 3)) } else { Ok(()) };
         assert_eq!(load(1, &rw, &[]).map(|_| ()), said);
     }
-    for opaque in [0x00, 0x01, 0x09, 0x0E, 0x13, 0xFF] {
+    for opaque in [0x00, 0x01, 0x13, 0x14, 0x77, 0xFF] {
         let rw = [entry(opaque, 0, 0, &[0xFF, 0xFF]), of(0x02, 0)].concat();
         assert!(load(1, &rw, &[]).is_ok());
     }

@@ -4,12 +4,8 @@ use mathlib.Core.Bool.{Bool, true, false}
 use mathlib.Core.List.{List, []}
 use Prim.Native.Nat.{ℕ, zero, suc, _+_, _≤_, _<_}
 use native.Mathlib.Omega.{arith}
-use borrow.Author.Tests.{lt-ltb}
 use lib.Dec.{eqb, leb}
-use lib.IntN.{pos, _-ℤ_}
 use lib.ListN.{length, getD}
-use mir.Syntax.{w64}
-use mir.Val.{SFits}
 use Rattle.rules.specs.declared.Entry.{Entry}
 use Rattle.rules.specs.declared.Loaded.the-variants.{Accepted as accepted}
 use Rattle.rules.specs.Parameter.{rowOf}
@@ -22,19 +18,14 @@ use Rattle.rules.proofs.Load.Walks.{map-good, load-accepted}
 use Rattle.rules.proofs.Load.EntryHeads.{in-rw}
 use Rattle.rules.proofs.Load.Checks.{high-one, high-two}
 use Rattle.rules.proofs.Basics.Tests.{by-test}
-use Rattle.descriptor.specs.Find.{hasCodes, namedOf}
+use Rattle.descriptor.specs.Find.{isCoded, namedOf}
 use Rattle.descriptor.specs.EntryLines.{flag, lineOf, lines, listOf}
 use Rattle.descriptor.proofs.TableRows.{parts-few, width-narrow}
-use Rattle.descriptor.proofs.Accepts.{coded-values}
+use Rattle.descriptor.proofs.Accepts.{coded-ends}
 use Rattle.descriptor.proofs.Marks.{Marked, marked}
-use Rattle.descriptor.proofs.EntryLines.{low-below, high-above, codes-small, lines-at, rw-few}
+use Rattle.descriptor.proofs.EntryLines.{entry-low, entry-high, codes-small, lines-at, rw-few}
 use Rattle.control_set.specs.declared.plan.Fields.{Fields}
 use Rattle.control_set.specs.Plan.{Narrow, Listed, Spread, LowCodes, fieldsOf, fieldsBy}
-
--- a number of 16 bits below 0
-pub below-fits : (n : ℕ) → n < 0x10000 → SFits w64 (pos 0 -ℤ pos n)
-below-fits zero h = record { sfits = omega arith }
-below-fits (suc n) h = rw (lt-ltb 0 (suc n) (omega arith)) (record { sfits = omega arith })
 
 -- an entry's line says what apply needs of it
 flagged : (b : Bool) → eqb (flag b) 1 ≡ b
@@ -48,7 +39,7 @@ flag-small false = omega arith
 pub line-fields : (e : Entry) → fieldsBy (lineOf e) ≡ fieldsOf e
 unfolding namedOf
 line-fields e =
-    rw (flagged (signedOf e), flagged (hasCodes (rowOf (e .id) .codesAt)), low-below (e .id) .0, high-above (e .id) .0) refl
+    rw (flagged (signedOf e), flagged (isCoded (rowOf (e .id) .values)), entry-low e .down, entry-high e .down) refl
 
 -- numbers of 16 bits
 line-narrow : (e : Entry) → e .mask < 0x10000 → e .offset ≤ 256 → Narrow (lineOf e)
@@ -62,16 +53,16 @@ line-narrow e m o =
     go (suc (suc zero)) = omega (arith, parts-few e)
     go (suc (suc (suc zero))) = omega (arith, width-narrow e)
     go (suc (suc (suc (suc zero)))) = flag-small (signedOf e)
-    go (suc (suc (suc (suc (suc zero))))) = omega (arith, low-below (e .id) .1)
-    go (suc (suc (suc (suc (suc (suc zero)))))) = omega (arith, high-above (e .id) .1)
-    go (suc (suc (suc (suc (suc (suc (suc zero))))))) = flag-small (hasCodes (rowOf (e .id) .codesAt))
+    go (suc (suc (suc (suc (suc zero))))) = omega (arith, entry-low e .small)
+    go (suc (suc (suc (suc (suc (suc zero)))))) = omega (arith, entry-high e .small)
+    go (suc (suc (suc (suc (suc (suc (suc zero))))))) = flag-small (isCoded (rowOf (e .id) .values))
     go (suc (suc (suc (suc (suc (suc (suc (suc zero)))))))) = codes-small e
     go (suc (suc (suc (suc (suc (suc (suc (suc (suc k))))))))) = omega arith
 
 -- codes are low
 pub entry-codes : (e : Entry) → LowCodes (fieldsOf e)
 unfolding namedOf
-entry-codes e h = let c = coded-values (e .id) h in (c .low-is, c .high-is)
+entry-codes e h = coded-ends e h
 
 -- an application mask of bytes
 mask-small : (count : ℕ) (s : List ℕ) (at : ℕ) → ((i : ℕ) → byteAt s i < 256) → highFirst s at (maskBytes count) < 0x10000

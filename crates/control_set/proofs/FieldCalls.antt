@@ -261,4 +261,4 @@ module _ (count : ℕ) (first last : List ℕ) (b : Bank) (e i : ℕ) where
       weight-is =
           let z : numberBy true (bitsAt b 2 (f .offset) 0 8 i) ≡ numberIn (mapOf count first last) b 2 e 0 i
           = rw (signed-12, width-12) at (number-there count first last b t (publish-there count first last b t)) in
-          rw (order, h, step-is count first last (t .named)) (ap (λ v. number (weightOf (entry (mapOf count first last) e .step) v)) z)
+          rw (order, h, step-is count first last (t .named) is-12) (ap (λ v. number (weightOf (entry (mapOf count first last) e .step) v)) z)

@@ -14,7 +14,7 @@ use Rattle.rules.specs.Parameter.{rowOf}
 use Rattle.rules.specs.Place.{widthOf, signedOf}
 use Rattle.rules.specs.Accept.{inMask, fromBits}
 use Rattle.descriptor.specs.Find.{namedOf}
-use Rattle.descriptor.proofs.Accepts.{signed-byte, coded-values}
+use Rattle.descriptor.proofs.Accepts.{signed-byte, coded-ends}
 use Rattle.control_set.specs.Values.{CodesLow, numberBy}
 
 -- a code of 4 bits is the number of a bit
@@ -38,7 +38,7 @@ codes-bit mask (negsuc n) h = absurd h
 -- what a call needs of an entry has the range of its codes
 pub named-ranged : (inRO : Bool) (e : Entry) → let f = namedOf inRO e in CodesLow (f .low) (f .high) (f .coded)
 unfolding namedOf
-named-ranged inRO e h = (coded-values (e .id) h .low-is, coded-values (e .id) h .high-is)
+named-ranged inRO e h = coded-ends e h
 
 unsigned : (w n : ℕ) → pos n ≡ fromBits false w n
 unfolding fromBits

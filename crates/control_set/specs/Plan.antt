@@ -61,8 +61,8 @@ fieldsBy line =
       parts = getD line 2 0;
       width = getD line 3 0;
       signed = eqb (getD line 4 0) 1;
-      low = pos 0 -ℤ pos (getD line 5 0);
-      high = pos (getD line 6 0);
+      low = pos (getD line 5 0) -ℤ pos 128;
+      high = pos (getD line 6 0) -ℤ pos 128;
       coded = eqb (getD line 7 0) 1;
       codes = getD line 8 0;
     }

@@ -13,10 +13,10 @@ use crate::accept::accepts;
 use crate::bank::app_sel_at;
 use crate::bank::read_field;
 use crate::number::number_of;
-use descriptor::columns::BELOW;
 use descriptor::columns::CODED;
 use descriptor::columns::CODES;
 use descriptor::columns::HIGH;
+use descriptor::columns::LOW;
 use descriptor::columns::MASK;
 use descriptor::columns::OFFSET;
 use descriptor::columns::PARTS;
@@ -56,8 +56,8 @@ pub fn fields_at(list: &[[u16; 9]; 30], entry: usize) -> Fields
         parts: line[PARTS] as usize,
         width: line[WIDTH] as usize,
         signed: line[SIGNED] == 1,
-        low: 0 - (line[BELOW] as i64),
-        high: line[HIGH] as i64,
+        low: (line[LOW] as i64) - 128,
+        high: (line[HIGH] as i64) - 128,
         coded: line[CODED] == 1,
         codes: line[CODES] as usize,
     }

@@ -1,7 +1,7 @@
 -- What a call needs of an entry says what it accepts: one test of the table's values, computed for each ID that the table names and
 -- for the others, and what follows from it.
-use mathlib.Core.Path.{_≡_, refl, _∙_}
-use mathlib.Core.Bool.{Bool, true, false, _&&_, _||_, not, cond, Bool·beq}
+use mathlib.Core.Path.{_≡_, refl, sym, _∙_}
+use mathlib.Core.Bool.{Bool, true, false, _&&_, _||_, Bool·beq}
 use mathlib.Core.List.{List, [], _∷_}
 use Prim.Native.Nat.{ℕ, _≤_, _<_}
 use native.Mathlib.Omega.{arith}
@@ -14,12 +14,12 @@ use borrow.Author.Tests.{le-leb, lt-leb, eq-eqb}
 use lib.ListN.{List·getD-eq-default}
 use Rattle.rules.specs.declared.Entry.{Entry}
 use Rattle.rules.specs.Numbers.{bitOf, sum}
-use Rattle.rules.specs.Parameter.{Position, absent, after, Range, rows as tableRows, space, both, rowOf}
+use Rattle.rules.specs.Parameter.{Range, Values, numbers, ifInMask, minToMax, rows as tableRows, space, both, rowOf}
 use Rattle.rules.specs.Place.{partsOf}
-use Rattle.rules.specs.Accept.{within, inMask, inCodes, accepts}
-use Rattle.rules.proofs.Basics.Tests.{and₂, is-true, from-true, and-no}
+use Rattle.rules.specs.Accept.{within, inMask, signedByte, takes, accepts}
+use Rattle.rules.proofs.Basics.Tests.{and₂, from-true, and-no}
 use Rattle.rules.proofs.Basics.Ids.{below, below-at, every-id}
-use Rattle.descriptor.specs.Find.{lowIn, highIn, codeMask, hasCodes, namedOf, acceptedIn, acceptedBy}
+use Rattle.descriptor.specs.Find.{lowest, highest, codeBits, lowOf, highOf, isCoded, listedIn, namedOf, acceptedIn, acceptedBy}
 use Rattle.descriptor.proofs.TableRows.{same-test, only, only-then, eqZ, eqZ→eq}
 use Rattle.descriptor.proofs.Bits.{and-bit}
 
@@ -29,7 +29,7 @@ single [] = false
 single (r ∷ []) = true
 single (r ∷ q ∷ l) = false
 
-single-within : (l : List Range) (v : ℤ) → T (single l) → within l v ≡ (leZ (lowIn l) v && leZ v (highIn l))
+single-within : (l : List Range) (v : ℤ) → T (single l) → within l v ≡ (leZ (lowest l) v && leZ v (highest l))
 unfolding within
 single-within [] v h = absurd h
 single-within (r ∷ []) v h = or-no (leZ (r .low) v && leZ v (r .high))
@@ -64,14 +64,14 @@ within-out (r ∷ l) v h k =
 
 -- each has its bit
 abbrev bits : List Range → Bool
-bits l = below 16 (λ n. Bool·beq (within l (pos n)) (bitOf (codeMask l) n))
+bits l = below 16 (λ n. Bool·beq (within l (pos n)) (bitOf (codeBits l) n))
 
-codes-within : (l : List Range) (v : ℤ) → T (low l) → T (bits l) → within l v ≡ ((leZ (pos 0) v && leZ v (pos 15)) && inMask (codeMask l) v)
+codes-within : (l : List Range) (v : ℤ) → T (low l) → T (bits l) → within l v ≡ ((leZ (pos 0) v && leZ v (pos 15)) && inMask (codeBits l) v)
 unfolding inMask
 codes-within l (pos n) h b = go (decLt n 16)
   where
-    go : Dec (n < 16) → within l (pos n) ≡ ((leb 0 n && leb n 15) && bitOf (codeMask l) n)
-    go (yes u) = rw (le-leb 0 n (omega arith), le-leb n 15 (omega arith)) (same-test _ _ (below-at 16 (λ k. Bool·beq (within l (pos k)) (bitOf (codeMask l) k)) b n u))
+    go : Dec (n < 16) → within l (pos n) ≡ ((leb 0 n && leb n 15) && bitOf (codeBits l) n)
+    go (yes u) = rw (le-leb 0 n (omega arith), le-leb n 15 (omega arith)) (same-test _ _ (below-at 16 (λ k. Bool·beq (within l (pos k)) (bitOf (codeBits l) k)) b n u))
     go (no u) = within-out l (pos n) h (λ k q. let e : n ≡ k = cc in omega arith) ∙ rw (lt-leb n 15 (omega arith), and-no (leb 0 n)) refl
 codes-within l (negsuc n) h b = within-out l (negsuc n) h (λ k q. let o : _≡_ {A = ℕ} 0 1 = cc in absurd (omega arith))
 
@@ -80,78 +80,78 @@ unfolding inMask
 and-codes x y (pos n) = and-bit x y n
 and-codes x y (negsuc n) = refl
 
--- the test: a signed number has 8 bits; accepted values are codes where there is a code mask, else one range
+-- the test: a signed number has 8 bits; accepted values are codes where there is a code mask, else one range or the entry's own
 abbrev coded : List Range → Bool
-coded l = (eqZ (lowIn l) (pos 0) && eqZ (highIn l) (pos 15)) && (low l && bits l)
+coded l = (eqZ (lowest l) (pos 0) && eqZ (highest l) (pos 15)) && (low l && bits l)
+
+abbrev valuesTest : ℕ → Values → Bool
+valuesTest parts (numbers l) = only (ltb 0 parts) (single l)
+valuesTest parts (ifInMask l) = coded l
+valuesTest parts minToMax = true
 
 abbrev test : ℕ → Bool
-test id =
-    only (rowOf id .signed) (eqb (rowOf id .width) 8)
-    && cond (hasCodes (rowOf id .codesAt)) (coded (rowOf id .values)) (only (ltb 0 (rowOf id .parts)) (single (rowOf id .values)))
+test id = only (rowOf id .signed) (eqb (rowOf id .width) 8) && valuesTest (rowOf id .parts) (rowOf id .values)
 
 tested : (id : ℕ) → T (test id)
-unfolding rowOf codeMask within sum
+unfolding rowOf codeBits within sum
 tested = every-id test tt (λ id l. rw (List·getD-eq-default tableRows (space both) {n = id} l) tt)
 
-module _ (id : ℕ) where
-  pub signed-byte : rowOf id .signed ≡ true → rowOf id .width ≡ 8
-  signed-byte h = eqb→eq _ _ (only-then (rowOf id .signed) _ (and₂ (only (rowOf id .signed) (eqb (rowOf id .width) 8)) _ (tested id) .0) (from-true h))
+pub signed-byte : (id : ℕ) → rowOf id .signed ≡ true → rowOf id .width ≡ 8
+signed-byte id h = eqb→eq _ _ (only-then (rowOf id .signed) _ (and₂ (only (rowOf id .signed) (eqb (rowOf id .width) 8)) _ (tested id) .0) (from-true h))
 
-  values-tested : T (cond (hasCodes (rowOf id .codesAt)) (coded (rowOf id .values)) (only (ltb 0 (rowOf id .parts)) (single (rowOf id .values))))
-  values-tested = and₂ (only (rowOf id .signed) (eqb (rowOf id .width) 8)) _ (tested id) .1
+values-tested : (id : ℕ) → T (valuesTest (rowOf id .parts) (rowOf id .values))
+values-tested id = and₂ (only (rowOf id .signed) (eqb (rowOf id .width) 8)) _ (tested id) .1
 
-  pub record Coded : Type 0 where
-    pub low-is : lowIn (rowOf id .values) ≡ pos 0
-    pub high-is : highIn (rowOf id .values) ≡ pos 15
-    pub all-low : T (low (rowOf id .values))
-    pub all-bits : T (bits (rowOf id .values))
+record Coded (l : List Range) : Type 0 where
+  low-is : lowest l ≡ pos 0
+  high-is : highest l ≡ pos 15
+  all-low : T (low l)
+  all-bits : T (bits l)
 
-  pub coded-values : hasCodes (rowOf id .codesAt) ≡ true → Coded
-  coded-values h =
-      let l : List Range = rowOf id .values in
-      let (a, b) = and₂ (eqZ (lowIn l) (pos 0) && eqZ (highIn l) (pos 15)) (low l && bits l) (rw h at values-tested) in
-      let (c, d) = and₂ (eqZ (lowIn l) (pos 0)) (eqZ (highIn l) (pos 15)) a in
-      let (e, f) = and₂ (low l) (bits l) b in
-      record { low-is = eqZ→eq _ _ c; high-is = eqZ→eq _ _ d; all-low = e; all-bits = f }
+coded-says : (l : List Range) → T (coded l) → Coded l
+coded-says l h =
+    let (a, b) = and₂ (eqZ (lowest l) (pos 0) && eqZ (highest l) (pos 15)) (low l && bits l) h in
+    let (c, d) = and₂ (eqZ (lowest l) (pos 0)) (eqZ (highest l) (pos 15)) a in
+    let (e, f) = and₂ (low l) (bits l) b in
+    record { low-is = eqZ→eq _ _ c; high-is = eqZ→eq _ _ d; all-low = e; all-bits = f }
 
-  -- the table's values, as a range and codes
-  values-are :
-      0 < rowOf id .parts
-      → (mask : ℕ) (v : ℤ)
-      → acceptedIn (lowIn (rowOf id .values)) (highIn (rowOf id .values)) (hasCodes (rowOf id .codesAt)) (cond (hasCodes (rowOf id .codesAt)) (bitAnd (codeMask (rowOf id .values)) mask) 0) v
-      ≡ (within (rowOf id .values) v && inCodes (rowOf id .codesAt) mask v)
-  unfolding acceptedIn inCodes
-  values-are some mask v = go (hasCodes (rowOf id .codesAt)) refl
-    where
-      l : List Range
-      l = rowOf id .values
+-- codes are 0 to 15
+pub coded-ends : (e : Entry) → isCoded (rowOf (e .id) .values) ≡ true → (lowOf (rowOf (e .id) .values) e ≡ pos 0) × (highOf (rowOf (e .id) .values) e ≡ pos 15)
+coded-ends e h = go (rowOf (e .id) .values) (values-tested (e .id)) h
+  where
+    go : (x : Values) → T (valuesTest (rowOf (e .id) .parts) x) → isCoded x ≡ true → (lowOf x e ≡ pos 0) × (highOf x e ≡ pos 15)
+    go (numbers l) t q = let o : _≡_ {A = ℕ} 0 1 = cc in absurd (omega arith)
+    go (ifInMask l) t q = let c = coded-says l t in (c .low-is, c .high-is)
+    go minToMax t q = let o : _≡_ {A = ℕ} 0 1 = cc in absurd (omega arith)
 
-      -- a position with codes asks the mask, one without doesn't
-      asks : (x : Position) (t : Bool) → hasCodes x ≡ t → inCodes x mask v ≡ (not t || inMask mask v)
-      asks absent true q = let o : _≡_ {A = ℕ} 0 1 = cc in absurd (omega arith)
-      asks absent false q = refl
-      asks (after n) true q = refl
-      asks (after n) false q = let o : _≡_ {A = ℕ} 0 1 = cc in absurd (omega arith)
+and-yes : (t : Bool) → (t && true) ≡ t
+and-yes true = refl
+and-yes false = refl
 
-      group : (a b c : Bool) → (a && (b && c)) ≡ ((a && b) && c)
-      group true b c = refl
-      group false b c = refl
-
-      go : (t : Bool) → hasCodes (rowOf id .codesAt) ≡ t
-          → ((leZ (lowIn l) v && leZ v (highIn l)) && (not t || inMask (cond t (bitAnd (codeMask l) mask) 0) v))
-          ≡ (within l v && inCodes (rowOf id .codesAt) mask v)
-      go true q =
-          let c = coded-values q in
-          rw (c .low-is, c .high-is, and-codes (codeMask l) mask v, asks (rowOf id .codesAt) true q, codes-within l v (c .all-low) (c .all-bits))
-          (group (leZ (pos 0) v && leZ v (pos 15)) (inMask (codeMask l) v) (inMask mask v))
-      go false q =
-          let t = rw (q, is-true (ltb 0 (rowOf id .parts)) (lt→ltb _ _ some)) at values-tested in
-          rw (asks (rowOf id .codesAt) false q, single-within l v t) refl
+-- a column's values, as a range and codes
+values-are :
+    (x : Values) (parts : ℕ)
+    → T (valuesTest parts x)
+    → 0 < parts
+    → (e : Entry) (v : ℤ)
+    → acceptedIn (lowOf x e) (highOf x e) (isCoded x) (bitAnd (listedIn x) (e .codes)) v ≡ takes x e v
+unfolding acceptedIn takes
+values-are (numbers l) parts t some e v =
+    and-yes (leZ (lowest l) v && leZ v (highest l)) ∙ sym (single-within l v (only-then (ltb 0 parts) (single l) t (lt→ltb 0 parts some)))
+values-are (ifInMask l) parts t some e v =
+    let c = coded-says l t in
+    rw (c .low-is, c .high-is, and-codes (codeBits l) (e .codes) v, codes-within l v (c .all-low) (c .all-bits))
+    (group (leZ (pos 0) v && leZ v (pos 15)) (inMask (codeBits l) v) (inMask (e .codes) v))
+  where
+    group : (a b c : Bool) → (a && (b && c)) ≡ ((a && b) && c)
+    group true b c = refl
+    group false b c = refl
+values-are minToMax parts t some e v = and-yes (leZ (signedByte (e .min)) v && leZ v (signedByte (e .max)))
 
 -- what a call needs of an entry with fields says what it accepts
 pub named-accepts : (inRO : Bool) (e : Entry) (v : ℤ) → 0 < partsOf e → acceptedBy (namedOf inRO e) v ≡ accepts e v
 unfolding namedOf accepts partsOf
-named-accepts inRO e v h = values-are (e .id) h (e .codes) v
+named-accepts inRO e v h = values-are (rowOf (e .id) .values) (rowOf (e .id) .parts) (values-tested (e .id)) h e v
 
 -- a field that is not of 8 bits holds unsigned numbers
 pub few-unsigned : (id : ℕ) → eqb (rowOf id .width) 8 ≡ false → rowOf id .signed ≡ false

@@ -1,65 +1,89 @@
 -- The lines of the RW entries: what a line says, what a list of them holds, and that a string has at most 30 entries.
-use mathlib.Core.Path.{_≡_, refl, sym, ap, _∙_}
-use mathlib.Core.Bool.{Bool, false, cond}
+use mathlib.Core.Path.{_≡_, refl, sym, ap, _∙_, subst}
+use mathlib.Core.Bool.{Bool, true, false, cond}
 use mathlib.Core.List.{List, [], _∷_}
-use Prim.Native.Nat.{ℕ, zero, suc, _+_, _*_, _^_, _≤_, _<_}
+use Prim.Native.Nat.{ℕ, zero, suc, _+_, _-_, _*_, _^_, _≤_, _<_}
 use native.Mathlib.Decide.{ℕ-discrete}
 use native.Mathlib.Omega.{arith}
-use lib.Bits.{and-le-l}
-use lib.Dec.{leb}
-use lib.IntN.{ℤ, pos, _-ℤ_}
+use lib.Bits.{bitAnd, and-le-l}
+use lib.Dec.{T, ltb, ltb→lt, nltb→le, leb, leb→le, le→leb}
+use lib.IntN.{ℤ, pos, negsuc, _+ℤ_, _-ℤ_}
 use lib.ListN.{length, getD, set, length-set}
 use lib.Seq.{getD-set-same, getD-set-other}
-use borrow.Author.Tests.{lt-ltb}
+use borrow.Author.Tests.{lt-ltb, le-ltb}
 use mir.Syntax.{w64}
 use mir.Val.{toZ, ofZ, SFits}
 use mir.Facts.{toZ-ofZ}
 use Rattle.rules.specs.declared.Entry.{Entry}
 use Rattle.rules.specs.declared.Loaded.the-variants.{Accepted as accepted}
 use Rattle.rules.specs.Numbers.{sum}
-use Rattle.rules.specs.Parameter.{rowOf}
+use Rattle.rules.specs.Parameter.{Values as Column, numbers, ifInMask, minToMax, rowOf}
 use Rattle.rules.specs.Descriptor.{maskBytes}
 use Rattle.rules.specs.Load.{loadOf, rwEntries}
 use Rattle.rules.specs.Place.{nothing}
-use Rattle.rules.specs.Accept.{within}
+use Rattle.rules.specs.Accept.{within, fromBits, signedByte}
 use Rattle.rules.specs.Demands.{Accepted}
-use Rattle.rules.proofs.Basics.Tests.{by-test}
+use Rattle.rules.proofs.Basics.Tests.{by-test, and₂, both-true}
 use Rattle.rules.proofs.Load.Checks.{decode-passed}
 use Rattle.rules.proofs.Load.Fills.{Filled, rw-filled}
 use Rattle.rules.proofs.Load.EntryHeads.{strings-short}
 use Rattle.rules.proofs.Load.Walks.{load-accepted}
-use Rattle.descriptor.specs.Find.{lowIn, highIn, codeMask, hasCodes, listedOf, namedOf}
+use Rattle.descriptor.specs.Rows.{lowIn, highIn}
+use Rattle.descriptor.specs.Find.{lowest, highest, codeBits, lowOf, highOf, listedIn, namedOf}
 use Rattle.descriptor.specs.Marks.{markAfter, Passable}
-use Rattle.descriptor.specs.EntryLines.{below, above, lineOf, lineBy, Short, lineAt, lines, listOf}
-use Rattle.descriptor.proofs.TableRows.{small, parts-few, width-narrow}
+use Rattle.descriptor.specs.EntryLines.{raised, Near, lineOf, lineBy, Short, lineAt, lines, listOf}
+use Rattle.descriptor.proofs.TableRows.{inside, small, parts-few, width-narrow}
 use Rattle.descriptor.proofs.Marks.{Marked, marked, accepts}
 
--- a number so far below 0
-below-fits : (n : ℕ) → n < 256 → SFits w64 (pos 0 -ℤ pos n)
-below-fits zero h = record { sfits = omega arith }
-below-fits (suc n) h = rw (lt-ltb 0 (suc n) (omega arith)) (record { sfits = omega arith })
+-- a number from −128 to 255
+near : (z : ℤ) → T (inside z) → Near z
+near (pos n) t =
+    let h : n ≤ 255 = leb→le n 255 (and₂ true (leb n 255) t .1) in
+    record { up = refl; down = rw (le-ltb (n + 128) 128 (omega arith)) (ap pos (omega arith)); small = omega arith }
+near (negsuc n) t =
+    let h : n ≤ 127 = leb→le n 127 (and₂ (leb n 127) true t .0) in
+    record {
+      up = rw (le-ltb 128 (suc n) (omega arith)) (ap pos (omega arith));
+      down = rw (lt-ltb (127 - n) 128 (omega arith)) (ap negsuc (omega arith));
+      small = omega arith;
+    }
 
-below-is : (n : ℕ) → below (pos 0 -ℤ pos n) ≡ n
-below-is zero = refl
-below-is (suc n) = rw (lt-ltb 0 (suc n) (omega arith)) (omega arith)
+near-byte : (n : ℕ) → Near (signedByte n)
+unfolding fromBits
+near-byte n =
+    by-test Near (ltb n 128) (pos n) (negsuc (256 - suc n))
+    (λ t. near (pos n) (le→leb n 255 (omega (arith, ltb→lt n 128 t))))
+    (λ t. near (negsuc (256 - suc n)) (both-true (leb (256 - suc n) 127) true (le→leb (256 - suc n) 127 (omega (arith, nltb→le n 128 t))) tt))
 
-back : (n : ℕ) → pos 0 -ℤ (pos 0 -ℤ pos n) ≡ pos n
-back zero = refl
-back (suc n) = rw (lt-ltb 0 (suc n) (omega arith)) (ap pos (omega arith))
+-- the ends of the accepted numbers of an entry
+near-low : (x : Column) (e : Entry) → T (inside (lowIn x)) → Near (lowOf x e)
+near-low (numbers l) e t = near (lowest l) t
+near-low (ifInMask l) e t = near (lowest l) t
+near-low minToMax e t = near-byte (e .min)
+
+near-high : (x : Column) (e : Entry) → T (inside (highIn x)) → Near (highOf x e)
+near-high (numbers l) e t = near (highest l) t
+near-high (ifInMask l) e t = near (highest l) t
+near-high minToMax e t = near-byte (e .max)
+
+pub entry-low : (e : Entry) → Near (lowOf (rowOf (e .id) .values) e)
+entry-low e = near-low (rowOf (e .id) .values) e (small (e .id) .low)
+
+pub entry-high : (e : Entry) → Near (highOf (rowOf (e .id) .values) e)
+entry-high e = near-high (rowOf (e .id) .values) e (small (e .id) .high)
 
 -- as the machine computes it
-pub far-back : (z : ℤ) (n : ℕ) → z ≡ pos 0 -ℤ pos n → n < 256 → (pos 0 -ℤ toZ w64 (ofZ w64 z) ≡ pos n) × (below z ≡ n)
-far-back z n e h = rw e (rw (toZ-ofZ (below-fits n h)) (back n), below-is n)
+pub lowered : (n : ℕ) → n < 0x10000 → SFits w64 (pos n -ℤ pos 128)
+lowered n h =
+    by-test (SFits w64) (ltb n 128) (negsuc (128 - suc n)) (pos (n - 128)) (λ _. record { sfits = omega arith }) (λ _. record { sfits = omega arith })
 
-pub far-word : (n : ℕ) → n < 256 → toZ w64 (ofZ w64 (pos n)) ≡ pos n
-far-word n h = toZ-ofZ {w = w64} {z = pos n} (record { sfits = omega arith })
+pub raised-word : (z : ℤ) → Near z → toZ w64 (ofZ w64 z) +ℤ pos 128 ≡ pos (raised z)
+raised-word z n =
+    let f : SFits w64 z = subst (λ (x : ℤ). SFits w64 x) (n .down) (lowered (raised z) (omega (arith, n .small))) in
+    rw (toZ-ofZ f) (n .up)
 
--- the accepted numbers of an ID begin so far below 0, and end at a number that is not
-pub low-below : (id : ℕ) → (pos 0 -ℤ pos (below (lowIn (rowOf id .values))) ≡ lowIn (rowOf id .values)) × (below (lowIn (rowOf id .values)) < 256)
-low-below id = (small id .low, small id .low-small)
-
-pub high-above : (id : ℕ) → (pos (above (highIn (rowOf id .values))) ≡ highIn (rowOf id .values)) × (above (highIn (rowOf id .values)) < 256)
-high-above id = (small id .high, small id .high-small)
+pub word : (n : ℕ) → n < 512 → toZ w64 (ofZ w64 (pos n)) ≡ pos n
+word n h = toZ-ofZ {w = w64} {z = pos n} (record { sfits = omega arith })
 
 -- n codes have bits below 2 ^ n
 codes-lt : (n : ℕ) (f : ℕ → Bool) → sum n (λ k. cond (f k) (2 ^ k) 0) < 2 ^ n
@@ -69,27 +93,19 @@ codes-lt (suc n) f =
     let h = codes-lt n f in
     by-test (λ x. sum n (λ k. cond (f k) (2 ^ k) 0) + x < 2 ^ suc n) (f n) (2 ^ n) 0 (λ _. omega (arith, h)) (λ _. omega (arith, h))
 
-pub codes-small : (e : Entry) → listedOf e < 0x10000
-unfolding codeMask
-codes-small e =
-    let all : codeMask (rowOf (e .id) .values) < 0x10000 = codes-lt 16 (λ n. within (rowOf (e .id) .values) (pos n)) in
-    by-test (λ n. n < 0x10000) (hasCodes (rowOf (e .id) .codesAt)) _ _ (λ _. omega (arith, all, and-le-l (codeMask (rowOf (e .id) .values)) (e .codes))) (λ _. omega arith)
+listed-small : (x : Column) → listedIn x < 0x10000
+unfolding codeBits
+listed-small (numbers l) = omega arith
+listed-small (ifInMask l) = codes-lt 16 (λ n. within l (pos n))
+listed-small minToMax = omega arith
+
+pub codes-small : (e : Entry) → bitAnd (listedIn (rowOf (e .id) .values)) (e .codes) < 0x10000
+codes-small e = omega (arith, listed-small (rowOf (e .id) .values), and-le-l (listedIn (rowOf (e .id) .values)) (e .codes))
 
 pub named-short : (inRO : Bool) (e : Entry) → e .offset < 0x10000 → Short (namedOf inRO e)
 unfolding namedOf
 named-short inRO e h =
-    record {
-      offset = h;
-      parts = omega (arith, parts-few e);
-      width = omega (arith, width-narrow e);
-      far = below (lowIn (rowOf (e .id) .values));
-      far-is = sym (small (e .id) .low);
-      far-small = small (e .id) .low-small;
-      top = above (highIn (rowOf (e .id) .values));
-      top-is = sym (small (e .id) .high);
-      top-small = small (e .id) .high-small;
-      codes = codes-small e;
-    }
+    record { offset = h; parts = omega (arith, parts-few e); width = omega (arith, width-narrow e); low = entry-low e; high = entry-high e; codes = codes-small e }
 
 pub named-line : (inRO : Bool) (e : Entry) → lineBy (e .mask) (namedOf inRO e) ≡ lineOf e
 unfolding namedOf

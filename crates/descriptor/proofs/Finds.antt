@@ -6,7 +6,7 @@ use Prim.Native.Nat.{ℕ, _+_, _≤_, _<_}
 use native.Mathlib.Omega.{arith}
 use lib.ListN.{length}
 use lib.Dec.{ltb, ltb→lt}
-use borrow.Author.Tests.{not-false}
+use borrow.Author.Tests.{eq-eqb, not-false}
 use Rattle.rules.specs.declared.Refusal.{Refusal}
 use Rattle.rules.specs.declared.Refusal.the-variants.{Plain as plain}
 use Rattle.rules.specs.Descriptor.{maskBytes, entryAt}
@@ -55,9 +55,9 @@ module _ (count : ℕ) (first last : List ℕ) {e p i : ℕ} {f : Named} (z : In
   unfolding namedOf
   signed-is = ap (λ (x : Named). x .signed) (sym (z .is))
 
-  pub step-is : f .step ≡ entry (mapOf count first last) e .step
+  pub step-is : entry (mapOf count first last) e .id ≡ 0x12 → f .step ≡ entry (mapOf count first last) e .step
   unfolding namedOf
-  step-is = ap (λ (x : Named). x .step) (sym (z .is))
+  step-is q = ap (λ (x : Named). x .step) (sym (z .is)) ∙ rw (eq-eqb (entry (mapOf count first last) e .id) 0x12 q) refl
 
 -- a call whose bank is not too short is refused as one that takes none
 pub no-check8 : (count : ℕ) (first last : List ℕ) (rest : List Verdict) → toldOrder count first last false rest ≡ orderOf count first last rest

@@ -1,22 +1,25 @@
--- The rows of the code are those of document 01's table, at every ID: one test, computed for each ID that the table names and for the others.
--- And the bounds of what the table says, and the IDs that have no values and no step.
-use mathlib.Core.Path.{_≡_, refl, sym}
+-- The rows of the code are those of the table, at every ID: one test, computed for each ID that the table names and for the others.
+-- And the bounds of what the table says, and the IDs that have no values.
+use mathlib.Core.Path.{_≡_, refl}
 use mathlib.Core.Bool.{Bool, true, false, _&&_, _||_, not, Bool·beq}
-use mathlib.Core.List.{List}
-use Prim.Native.Nat.{ℕ, _≤_, _<_}
-use lib.IntN.{ℤ, pos, negsuc, _-ℤ_}
-use lib.Dec.{T, eqb, eqb→eq, ltb, ltb→lt, lt→ltb, leb, leb→le}
+use mathlib.Core.List.{List, [], _∷_}
+use Prim.Native.Nat.{ℕ, _+_, _≤_, _<_}
+use lib.IntN.{ℤ, pos, negsuc}
+use lib.Signed.{leZ}
+use lib.Dec.{T, eqb, eqb→eq, ltb, ltb→lt, leb, leb→le}
 use borrow.Author.Tests.{ne-eqb}
 use lib.ListN.{getD, List·getD-eq-default}
 use Rattle.rules.specs.declared.Entry.{Entry}
-use Rattle.rules.specs.Parameter.{Row as TableRow, rowOf, rows as tableRows, space, Side, RW, RO, both}
+use Rattle.rules.specs.Numbers.{sum}
+use Rattle.rules.specs.Parameter.{Row as TableRow, rowOf, rows as tableRows, space, Side, RW, RO, both, Extra, codeMask, min, max, step, Values as Column, numbers, ifInMask, minToMax}
+use Rattle.rules.specs.Descriptor.{Position, absent, after, positionOf}
+use Rattle.rules.specs.Accept.{within}
 use Rattle.rules.specs.Place.{partsOf, widthOf}
 use Rattle.rules.proofs.Basics.Tests.{and₂, and₃, and₄, and₅, is-false, or-right}
 use Rattle.rules.proofs.Table.Rows.{looked-up}
 use Rattle.rules.proofs.Basics.Ids.{every-id}
-use Rattle.descriptor.specs.Rows.{classes, classOf, rowAt, shapeAt, placeNumber, stepPlace, numberValues, valuesOf}
-use Rattle.descriptor.specs.Find.{lowIn, highIn, hasCodes}
-use Rattle.descriptor.specs.EntryLines.{below, above}
+use Rattle.descriptor.specs.Rows.{classes, classOf, rowAt, shapeAt, placeIn, lowIn, highIn, isLimited, moreIn, numberValues, valuesOf}
+use Rattle.descriptor.specs.Find.{codeBits, isCoded, listedIn}
 
 -- what the column of sides says, in terms of the table
 abbrev pub sideNumber : Side → ℕ
@@ -30,9 +33,9 @@ same-test true false h = absurd h
 same-test false true h = absurd h
 same-test false false h = refl
 
-pub class-small : (id : ℕ) → classOf id < 10
+pub class-small : (id : ℕ) → classOf id < 11
 unfolding classOf
-class-small id = ltb→lt _ 10 (looked-up (λ k. ltb k 10) classes 0 tt tt id)
+class-small id = ltb→lt _ 11 (looked-up (λ k. ltb k 11) classes 0 tt tt id)
 
 -- one test only where another holds
 abbrev pub only : Bool → Bool → Bool
@@ -46,42 +49,47 @@ only-then false b h t = absurd t
 abbrev pub cell : ℕ → ℕ → ℕ
 cell id column = getD (rowAt id) column 0
 
+-- a step is the last byte of the least Length, and four codes up to the last one are not reserved
+abbrev pub stepTest : ℕ × ℕ → Position → ℕ → ℕ → Bool
+stepTest steps absent last least = eqb last 0 && (eqb (steps .0) 0 && eqb (steps .1) 0)
+stepTest steps (after n) last least = ltb 0 last && (eqb (steps .0 + 3) last && (eqb (steps .1) last && eqb (n + 5) least))
+
 -- what the checks read says what the table says of an ID
 pub record Row (id : ℕ) : Type 0 where
   pub least : cell id 0 ≡ rowOf id .least
   pub needed : cell id 1 ≡ rowOf id .needed
   pub side : cell id 2 ≡ sideNumber (rowOf id .side)
-  pub flags : ltb 0 (cell id 3) ≡ rowOf id .flags
+  pub flags : ltb 3 (cell id 0) ≡ rowOf id .flags
   pub least-small : cell id 0 < 256
   pub needed-small : cell id 1 < 256
-  -- MemoryLength, PropertyFlags and step are within the least Length
+  pub last-small : cell id 3 < 256
+  -- MemoryLength is within the least Length
   pub room : 3 ≤ cell id 0
-  pub flags-room : 0 < cell id 3 → 4 ≤ cell id 0
-  pub step-room : 0 < stepPlace id → stepPlace id < cell id 0
+  pub stepped : T (stepTest (rowOf id .steps) (positionOf step (rowOf id .extras)) (cell id 3) (cell id 0))
 
-abbrev rowTest : TableRow → ℕ → List ℕ → Bool
-rowTest r step l =
+abbrev rowTest : TableRow → List ℕ → Bool
+rowTest r l =
     eqb (getD l 0 0) (r .least)
     && (eqb (getD l 1 0) (r .needed)
     && (eqb (getD l 2 0) (sideNumber (r .side))
-    && (Bool·beq (ltb 0 (getD l 3 0)) (r .flags)
+    && (Bool·beq (ltb 3 (getD l 0 0)) (r .flags)
     && (ltb (getD l 0 0) 256
     && (ltb (getD l 1 0) 256
+    && (ltb (getD l 3 0) 256
     && (leb 3 (getD l 0 0)
-    && (only (ltb 0 (getD l 3 0)) (leb 4 (getD l 0 0))
-    && only (ltb 0 step) (ltb step (getD l 0 0)))))))))
+    && stepTest (r .steps) (positionOf step (r .extras)) (getD l 3 0) (getD l 0 0))))))))
 
-row-tested : (id : ℕ) → T (rowTest (rowOf id) (stepPlace id) (rowAt id))
-unfolding rowOf classOf stepPlace
+row-tested : (id : ℕ) → T (rowTest (rowOf id) (rowAt id))
+unfolding rowOf classOf
 row-tested =
-    every-id (λ id. rowTest (rowOf id) (stepPlace id) (rowAt id)) tt
+    every-id (λ id. rowTest (rowOf id) (rowAt id)) tt
     λ id l. rw (List·getD-eq-default classes 0 {n = id} l, List·getD-eq-default tableRows (space both) {n = id} l) tt
 
 pub row : (id : ℕ) → Row id
 row id =
     let (t₁, t₂, t₃, more) = and₄ (eqb (cell id 0) (rowOf id .least)) (eqb (cell id 1) (rowOf id .needed)) (eqb (cell id 2) (sideNumber (rowOf id .side))) _ (row-tested id) in
-    let (t₄, t₅, t₆, rest) = and₄ (Bool·beq (ltb 0 (cell id 3)) (rowOf id .flags)) (ltb (cell id 0) 256) (ltb (cell id 1) 256) _ more in
-    let (t₇, t₈, t₉) = and₃ (leb 3 (cell id 0)) (only (ltb 0 (cell id 3)) (leb 4 (cell id 0))) (only (ltb 0 (stepPlace id)) (ltb (stepPlace id) (cell id 0))) rest in
+    let (t₄, t₅, t₆, rest) = and₄ (Bool·beq (ltb 3 (cell id 0)) (rowOf id .flags)) (ltb (cell id 0) 256) (ltb (cell id 1) 256) _ more in
+    let (t₇, t₈, t₉) = and₃ (ltb (cell id 3) 256) (leb 3 (cell id 0)) _ rest in
     record {
       least = eqb→eq _ _ t₁;
       needed = eqb→eq _ _ t₂;
@@ -89,9 +97,9 @@ row id =
       flags = same-test _ _ t₄;
       least-small = ltb→lt _ _ t₅;
       needed-small = ltb→lt _ _ t₆;
-      room = leb→le _ _ t₇;
-      flags-room = λ l. leb→le _ _ (only-then (ltb 0 (cell id 3)) _ t₈ (lt→ltb _ _ l));
-      step-room = λ l. ltb→lt _ _ (only-then (ltb 0 (stepPlace id)) _ t₉ (lt→ltb _ _ l));
+      last-small = ltb→lt _ _ t₇;
+      room = leb→le _ _ t₈;
+      stepped = t₉;
     }
 
 -- parts and bits a lane
@@ -122,109 +130,106 @@ eqZ→eq (pos a) (negsuc b) h = absurd h
 eqZ→eq (negsuc a) (pos b) h = absurd h
 eqZ→eq (negsuc a) (negsuc b) h = rw (eqb→eq a b h)
 
+-- from −128 to 255
+abbrev pub inside : ℤ → Bool
+inside z = leZ (negsuc 127) z && leZ z (pos 255)
+
+-- Min and Max are next to each other
+abbrev pub adjacent : Position → Position → Bool
+adjacent absent q = false
+adjacent (after n) absent = false
+adjacent (after n) (after k) = eqb k (n + 1) || eqb n (k + 1)
+
+abbrev pub present : Position → Bool
+present absent = false
+present (after n) = true
+
+-- an ID with codes has a code mask, one with limits has Min and Max
+abbrev pub moreTest : Column → List Extra → Bool
+moreTest (numbers l) x = true
+moreTest (ifInMask l) x = present (positionOf codeMask x)
+moreTest minToMax x = adjacent (positionOf min x) (positionOf max x)
+
 -- the numbers of an ID's fields are small
 pub record Small (id : ℕ) : Type 0 where
   pub few : rowOf id .parts < 16
   pub narrow : rowOf id .width < 16
-  pub low : pos 0 -ℤ pos (below (lowIn (rowOf id .values))) ≡ lowIn (rowOf id .values)
-  pub low-small : below (lowIn (rowOf id .values)) < 256
-  pub high : pos (above (highIn (rowOf id .values))) ≡ highIn (rowOf id .values)
-  pub high-small : above (highIn (rowOf id .values)) < 256
-  pub mask-place : placeNumber (rowOf id .codesAt) < 256
-  pub step-place : placeNumber (rowOf id .stepAt) < 256
+  pub low : T (inside (lowIn (rowOf id .values)))
+  pub high : T (inside (highIn (rowOf id .values)))
+  pub place : moreIn (rowOf id .values) (rowOf id .extras) < 256
+  pub more : T (moreTest (rowOf id .values) (rowOf id .extras))
+  pub coded : ltb 0 (listedIn (rowOf id .values)) ≡ isCoded (rowOf id .values)
 
 abbrev smallTest : TableRow → Bool
 smallTest r =
     ltb (r .parts) 16
     && (ltb (r .width) 16
-    && (eqZ (pos 0 -ℤ pos (below (lowIn (r .values)))) (lowIn (r .values))
-    && (ltb (below (lowIn (r .values))) 256
-    && (eqZ (pos (above (highIn (r .values)))) (highIn (r .values))
-    && (ltb (above (highIn (r .values))) 256 && (ltb (placeNumber (r .codesAt)) 256 && ltb (placeNumber (r .stepAt)) 256))))))
+    && (inside (lowIn (r .values))
+    && (inside (highIn (r .values))
+    && (ltb (moreIn (r .values) (r .extras)) 256
+    && (moreTest (r .values) (r .extras)
+    && Bool·beq (ltb 0 (listedIn (r .values))) (isCoded (r .values)))))))
 
 small-tested : (id : ℕ) → T (smallTest (rowOf id))
-unfolding rowOf
+unfolding rowOf codeBits within sum
 small-tested = looked-up smallTest tableRows (space both) tt tt
 
 pub small : (id : ℕ) → Small id
 small id =
     let r : TableRow = rowOf id in
-    let (t₁, t₂, t₃, more) = and₄ (ltb (r .parts) 16) (ltb (r .width) 16) (eqZ (pos 0 -ℤ pos (below (lowIn (r .values)))) (lowIn (r .values))) _ (small-tested id) in
-    let (t₄, t₅, t₆, rest) = and₄ (ltb (below (lowIn (r .values))) 256) (eqZ (pos (above (highIn (r .values)))) (highIn (r .values))) (ltb (above (highIn (r .values))) 256) _ more in
-    let (t₇, t₈) = and₂ (ltb (placeNumber (r .codesAt)) 256) (ltb (placeNumber (r .stepAt)) 256) rest in
-    record {
-      few = ltb→lt _ _ t₁;
-      narrow = ltb→lt _ _ t₂;
-      low = eqZ→eq _ _ t₃;
-      low-small = ltb→lt _ _ t₄;
-      high = eqZ→eq _ _ t₅;
-      high-small = ltb→lt _ _ t₆;
-      mask-place = ltb→lt _ _ t₇;
-      step-place = ltb→lt _ _ t₈;
-    }
+    let (t₁, t₂, t₃, rest) = and₄ (ltb (r .parts) 16) (ltb (r .width) 16) (inside (lowIn (r .values))) _ (small-tested id) in
+    let (t₄, t₅, t₆, t₇) = and₄ (inside (highIn (r .values))) (ltb (moreIn (r .values) (r .extras)) 256) (moreTest (r .values) (r .extras)) _ rest in
+    record { few = ltb→lt _ _ t₁; narrow = ltb→lt _ _ t₂; low = t₃; high = t₄; place = ltb→lt _ _ t₅; more = t₆; coded = same-test _ _ t₇ }
 
--- an ID other than 12h has no step
-step-tested : (id : ℕ) → T (only (not (eqb id 0x12)) (eqb (stepPlace id) 0))
-unfolding rowOf stepPlace
-step-tested =
-    every-id (λ id. only (not (eqb id 0x12)) (eqb (stepPlace id) 0)) tt
-    λ id l. rw (List·getD-eq-default tableRows (space both) {n = id} l) (or-right (not (not (eqb id 0x12))) true tt)
+-- an ID that no arm of `values_of` names has no values: none of those that the arms name, the last first
+abbrev pub Unlike : ℕ → List ℕ → Type 0
+Unlike id [] = Unit {0}
+Unlike id (x ∷ l) = Unlike id l × (id ≡ x → ⊥)
 
-pub no-step : (id : ℕ) → (id ≡ 0x12 → ⊥) → 0 ≡ stepPlace id
-no-step id h = sym (eqb→eq _ _ (only-then (not (eqb id 0x12)) _ (step-tested id) (rw (ne-eqb id 0x12 h) tt)))
+abbrev pub arms : List ℕ
+arms =
+    0x12 ∷ 0x11 ∷ 0x10 ∷ 0x0F ∷ 0x0E ∷ 0x0D ∷ 0x0C ∷ 0x0B ∷ 0x0A ∷ 0x09 ∷ 0x08 ∷ 0x07 ∷ 0x06 ∷ 0x05 ∷ 0x04 ∷ 0x03 ∷ 0x02 ∷ []
 
--- an ID that no arm of `values_of` names has no values
-abbrev unnamed : ℕ → Bool
-unnamed id =
-    not (eqb id 0x02)
-    && (not (eqb id 0x03)
-    && (not (eqb id 0x04)
-    && (not (eqb id 0x05)
-    && (not (eqb id 0x06)
-    && (not (eqb id 0x07)
-    && (not (eqb id 0x08)
-    && (not (eqb id 0x0F)
-    && (not (eqb id 0x10)
-    && (not (eqb id 0x11)
-    && not (eqb id 0x12))))))))))
+abbrev unnamed : ℕ → List ℕ → Bool
+unnamed id [] = true
+unnamed id (x ∷ l) = not (eqb id x) && unnamed id l
+
+unlike-says : (id : ℕ) (l : List ℕ) → Unlike id l → T (unnamed id l)
+unlike-says id [] h = tt
+unlike-says id (x ∷ l) h = rw (ne-eqb id x (h .1)) (unlike-says id l (h .0))
 
 abbrev empty : TableRow → Bool
 empty r =
     not (r .signed)
     && (eqZ (lowIn (r .values)) (pos 0)
-    && (eqZ (highIn (r .values)) (pos 0) && (eqb (placeNumber (r .codesAt)) 0 && not (hasCodes (r .codesAt)))))
+    && (eqZ (highIn (r .values)) (pos 0)
+    && (eqb (moreIn (r .values) (r .extras)) 0
+    && (eqb (listedIn (r .values)) 0
+    && (not (isLimited (r .values))
+    && (eqb (placeIn min (r .extras)) 0 && eqb (placeIn max (r .extras)) 0))))))
 
-empty-tested : (id : ℕ) → T (only (unnamed id) (empty (rowOf id)))
-unfolding rowOf
+empty-tested : (id : ℕ) → T (only (unnamed id arms) (empty (rowOf id)))
+unfolding rowOf codeBits within sum
 empty-tested =
-    every-id (λ id. only (unnamed id) (empty (rowOf id))) tt
-    λ id l. rw (List·getD-eq-default tableRows (space both) {n = id} l) (or-right (not (unnamed id)) true tt)
+    every-id (λ id. only (unnamed id arms) (empty (rowOf id))) tt
+    λ id l. rw (List·getD-eq-default tableRows (space both) {n = id} l) (or-right (not (unnamed id arms)) true tt)
 
-pub no-values :
-    (id : ℕ)
-    → (id ≡ 0x02 → ⊥)
-    → (id ≡ 0x03 → ⊥)
-    → (id ≡ 0x04 → ⊥)
-    → (id ≡ 0x05 → ⊥)
-    → (id ≡ 0x06 → ⊥)
-    → (id ≡ 0x07 → ⊥)
-    → (id ≡ 0x08 → ⊥)
-    → (id ≡ 0x0F → ⊥)
-    → (id ≡ 0x10 → ⊥)
-    → (id ≡ 0x11 → ⊥)
-    → (id ≡ 0x12 → ⊥)
-    → numberValues false (pos 0) (pos 0) ≡ valuesOf id
+pub no-values : (id : ℕ) → Unlike id arms → numberValues false (pos 0) (pos 0) ≡ valuesOf id
 unfolding valuesOf
-no-values id h2 h3 h4 h5 h6 h7 h8 h15 h16 h17 h18 =
+no-values id h =
     let r : TableRow = rowOf id in
-    let t = only-then (unnamed id) _ (empty-tested id) (rw (ne-eqb id 0x02 h2, ne-eqb id 0x03 h3, ne-eqb id 0x04 h4, ne-eqb id 0x05 h5, ne-eqb id 0x06 h6, ne-eqb id 0x07 h7, ne-eqb id 0x08 h8, ne-eqb id 0x0F h15, ne-eqb id 0x10 h16, ne-eqb id 0x11 h17, ne-eqb id 0x12 h18) tt) in
-    let (t₁, t₂, t₃, t₄, t₅) = and₅ (not (r .signed)) (eqZ (lowIn (r .values)) (pos 0)) (eqZ (highIn (r .values)) (pos 0)) (eqb (placeNumber (r .codesAt)) 0) (not (hasCodes (r .codesAt))) t in
+    let t = only-then (unnamed id arms) _ (empty-tested id) (unlike-says id arms h) in
+    let (t₁, t₂, t₃, rest) = and₄ (not (r .signed)) (eqZ (lowIn (r .values)) (pos 0)) (eqZ (highIn (r .values)) (pos 0)) _ t in
+    let (t₄, t₅, t₆, t₇, t₈) = and₅ (eqb (moreIn (r .values) (r .extras)) 0) (eqb (listedIn (r .values)) 0) (not (isLimited (r .values))) (eqb (placeIn min (r .extras)) 0) (eqb (placeIn max (r .extras)) 0) rest in
     rw (
       is-false (r .signed) t₁,
       eqZ→eq (lowIn (r .values)) (pos 0) t₂,
       eqZ→eq (highIn (r .values)) (pos 0) t₃,
-      eqb→eq (placeNumber (r .codesAt)) 0 t₄,
-      is-false (hasCodes (r .codesAt)) t₅,
+      eqb→eq (moreIn (r .values) (r .extras)) 0 t₄,
+      eqb→eq (listedIn (r .values)) 0 t₅,
+      is-false (isLimited (r .values)) t₆,
+      eqb→eq (placeIn min (r .extras)) 0 t₇,
+      eqb→eq (placeIn max (r .extras)) 0 t₈,
     )
     refl
 

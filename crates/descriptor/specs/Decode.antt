@@ -1,14 +1,14 @@
 -- One entry of a walk, in terms of the rules' decode of it.
 use mathlib.Core.Path.{_≡_}
-use mathlib.Core.Bool.{Bool, true, false, _&&_, not, cond}
+use mathlib.Core.Bool.{Bool, true, false, _&&_, not}
 use mathlib.Core.List.{List}
-use Prim.Native.Nat.{ℕ, _+_, _/_, _%_, _≤_, _<_}
+use Prim.Native.Nat.{ℕ, _+_, _-_, _/_, _%_, _≤_, _<_}
 use lib.ListN.{length, getD}
 use lib.Dec.{ltb, leb, eqb}
 use Rattle.rules.specs.declared.State.{State}
 use Rattle.rules.specs.declared.Decoded.{Decoded}
 use Rattle.rules.specs.declared.Decoded.the-variants.{Entry as decoded, Refused as failed}
-use Rattle.rules.specs.Descriptor.{byteAt}
+use Rattle.rules.specs.Descriptor.{byteAt, reserved}
 use Rattle.rules.specs.Load.{next}
 use Rattle.descriptor.specs.declared.decode.Decoding.{Decoding}
 use Rattle.descriptor.specs.declared.decode.Decoding.the-variants.{Past as past, Refused as stops}
@@ -19,9 +19,15 @@ abbrev pub decodingOf : ℕ → State → Decoded → Decoding
 decodingOf at st (decoded e) = past (at + e .length) (next st e)
 decodingOf at st (failed n) = stops n
 
--- the step byte by its place
-unfoldable pub stepBy : ℕ → List ℕ → ℕ → ℕ
-stepBy place s from = cond (ltb 0 place) (byteAt s (from + place)) 0
+-- the step of an entry is in the string, if the row of its ID has one
+pub record StepIn (row s : List ℕ) (from : ℕ) : Type 0 where
+  pub four : 0 < getD row 3 0 → 3 ≤ getD row 3 0
+  pub some : 0 < getD row 3 0 → 0 < getD row 0 0
+  pub room : 0 < getD row 3 0 → from + getD row 0 0 ≤ length s
+
+-- the test of 5: the step is the last byte of the least Length, and four codes up to the last one are not reserved
+unfoldable pub reservedBy : List ℕ → List ℕ → ℕ → Bool
+reservedBy row s from = ltb 0 (getD row 3 0) && reserved (getD row 3 0 - 3, getD row 3 0) (byteAt s (from + getD row 0 0 - 1))
 
 -- whether an ID may stand in a string, by the number of its side
 abbrev pub standsBy : ℕ → Bool → Bool

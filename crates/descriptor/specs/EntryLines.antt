@@ -2,8 +2,8 @@
 use mathlib.Core.Path.{_≡_}
 use mathlib.Core.Bool.{Bool, false, cond}
 use mathlib.Core.List.{List, [], _∷_}
-use Prim.Native.Nat.{ℕ, zero, suc, _<_}
-use lib.IntN.{ℤ, pos, negsuc, _-ℤ_}
+use Prim.Native.Nat.{ℕ, zero, suc, _+_, _-_, _<_}
+use lib.IntN.{ℤ, pos, negsuc, _+ℤ_, _-ℤ_}
 use lib.ListN.{length, getD, set}
 use Rattle.rules.specs.declared.Entry.{Entry}
 use Rattle.rules.specs.declared.Loaded.{Loaded}
@@ -14,38 +14,36 @@ use Rattle.descriptor.specs.declared.search.Mark.{Mark}
 use Rattle.descriptor.specs.declared.Named.{Named}
 use Rattle.descriptor.specs.Find.{namedOf}
 
--- how far a number lies below 0, and above it
-abbrev pub below : ℤ → ℕ
-below (pos n) = 0
-below (negsuc n) = suc n
-
-abbrev pub above : ℤ → ℕ
-above (pos n) = n
-above (negsuc n) = 0
+-- a number of at least −128, with 128 added
+abbrev pub raised : ℤ → ℕ
+raised (pos n) = n + 128
+raised (negsuc n) = 127 - n
 
 abbrev pub flag : Bool → ℕ
 flag b = cond b 1 0
 
--- application mask; offset, parts and bits a lane; signed; accepted from so far below 0 up to a number; coded, codes
+-- application mask; offset, parts and bits a lane; signed; the ends of the accepted numbers, raised; coded, codes
 abbrev pub lineBy : ℕ → Named → List ℕ
 lineBy mask f =
-    mask ∷ f .offset ∷ f .parts ∷ f .width ∷ flag (f .signed) ∷ below (f .low) ∷ above (f .high) ∷ flag (f .coded) ∷ f .codes ∷ []
+    mask ∷ f .offset ∷ f .parts ∷ f .width ∷ flag (f .signed) ∷ raised (f .low) ∷ raised (f .high) ∷ flag (f .coded) ∷ f .codes ∷ []
 
 -- the line of an entry of the RW string: what a call needs of it
 abbrev pub lineOf : Entry → List ℕ
 lineOf e = lineBy (e .mask) (namedOf false e)
 
--- numbers that a line has room for, from `far` below 0 up to `top`
+-- a number of −128 to 255, by its raised one
+pub record Near (z : ℤ) : Type 0 where
+  pub up : z +ℤ pos 128 ≡ pos (raised z)
+  pub down : pos (raised z) -ℤ pos 128 ≡ z
+  pub small : raised z < 512
+
+-- numbers that a line has room for
 pub record Short (f : Named) : Type 0 where
   pub offset : f .offset < 0x10000
   pub parts : f .parts < 0x10000
   pub width : f .width < 0x10000
-  pub far : ℕ
-  pub far-is : f .low ≡ pos 0 -ℤ pos far
-  pub far-small : far < 256
-  pub top : ℕ
-  pub top-is : f .high ≡ pos top
-  pub top-small : top < 256
+  pub low : Near (f .low)
+  pub high : Near (f .high)
   pub codes : f .codes < 0x10000
 
 -- the line of the entry at a mark

@@ -6,14 +6,14 @@ use Prim.Native.Nat.{ℕ, _^_}
 use lib.Bits.{bitAnd}
 use lib.IntN.{ℤ, pos}
 use lib.Signed.{leZ}
-use lib.Dec.{ltb}
+use lib.Dec.{ltb, eqb}
 use Rattle.rules.specs.declared.Entry.{Entry}
 use Rattle.rules.specs.declared.Refusal.the-variants.{Plain as plain}
 use Rattle.rules.specs.Numbers.{sum}
-use Rattle.rules.specs.Parameter.{Position, absent, after, Range, rowOf}
+use Rattle.rules.specs.Parameter.{Range, Values, numbers, ifInMask, minToMax, rowOf}
 use Rattle.rules.specs.Load.{mapOf}
 use Rattle.rules.specs.Place.{entry, isRW, isLane, hasField, partsOf, widthOf, signedOf}
-use Rattle.rules.specs.Accept.{within, inMask}
+use Rattle.rules.specs.Accept.{within, inMask, signedByte}
 use Rattle.rules.specs.Refuse.{Verdict, passes, refuses, refuseIf, firstOf, check9, check1to7}
 use Rattle.rules.specs.Demands.{Accepted}
 use Rattle.descriptor.specs.declared.Found.{Found}
@@ -21,28 +21,42 @@ use Rattle.descriptor.specs.declared.Found.the-variants.{In as isIn, Ref
 use Rattle.descriptor.specs.declared.Named.{Named}
 
 -- the accepted numbers lie from the first range's beginning to the last one's end
-abbrev pub lowIn : List Range → ℤ
-lowIn [] = pos 0
-lowIn (r ∷ l) = r .low
+abbrev pub lowest : List Range → ℤ
+lowest [] = pos 0
+lowest (r ∷ l) = r .low
 
-abbrev pub highIn : List Range → ℤ
-highIn [] = pos 0
-highIn (r ∷ []) = r .high
-highIn (r ∷ q ∷ l) = highIn (q ∷ l)
+abbrev pub highest : List Range → ℤ
+highest [] = pos 0
+highest (r ∷ []) = r .high
+highest (r ∷ q ∷ l) = highest (q ∷ l)
+
+-- or from Min to Max
+abbrev pub lowOf : Values → Entry → ℤ
+lowOf (numbers l) e = lowest l
+lowOf (ifInMask l) e = lowest l
+lowOf minToMax e = signedByte (e .min)
+
+abbrev pub highOf : Values → Entry → ℤ
+highOf (numbers l) e = highest l
+highOf (ifInMask l) e = highest l
+highOf minToMax e = signedByte (e .max)
 
 -- those of 0 to 15, a bit for each
-unfoldable pub codeMask : List Range → ℕ
-codeMask l = sum 16 λ n. cond (within l (pos n)) (2 ^ n) 0
+unfoldable pub codeBits : List Range → ℕ
+codeBits l = sum 16 λ n. cond (within l (pos n)) (2 ^ n) 0
 
-abbrev pub hasCodes : Position → Bool
-hasCodes absent = false
-hasCodes (after n) = true
+-- the codes that a code mask may allow
+abbrev pub isCoded : Values → Bool
+isCoded (numbers l) = false
+isCoded (ifInMask l) = true
+isCoded minToMax = false
 
--- the accepted codes of an entry with a code mask: those of its ID that are in it
-abbrev pub listedOf : Entry → ℕ
-listedOf e = cond (hasCodes (rowOf (e .id) .codesAt)) (bitAnd (codeMask (rowOf (e .id) .values)) (e .codes)) 0
+abbrev pub listedIn : Values → ℕ
+listedIn (numbers l) = 0
+listedIn (ifInMask l) = codeBits l
+listedIn minToMax = 0
 
--- what a call needs of an entry
+-- what a call needs of an entry; the step of 12h alone
 unfoldable pub namedOf : Bool → Entry → Named
 namedOf inRO e =
     record {
@@ -52,11 +66,11 @@ namedOf inRO e =
       parts = partsOf e;
       width = widthOf e;
       signed = signedOf e;
-      low = lowIn (rowOf (e .id) .values);
-      high = highIn (rowOf (e .id) .values);
-      coded = hasCodes (rowOf (e .id) .codesAt);
-      codes = listedOf e;
-      step = e .step;
+      low = lowOf (rowOf (e .id) .values) e;
+      high = highOf (rowOf (e .id) .values) e;
+      coded = isCoded (rowOf (e .id) .values);
+      codes = bitAnd (listedIn (rowOf (e .id) .values)) (e .codes);
+      step = cond (eqb (e .id) 0x12) (e .step) 0;
     }
 
 -- a field of the map of strings that load, and what a call needs of its entry

@@ -4,14 +4,13 @@ ghost use Prim.Native.Nat.{_<_, _+_};
 ghost use lib.ListN.{length};
 ghost use lib.Dec.{ltb};
 ghost use Rattle.rules.specs.Descriptor.{byteAt, mediaSide, entryAt, contentChecks, decodeAt};
-ghost use Rattle.descriptor.specs.Decode.{decodingOf, stepBy, standsBy, lateBy, Walking, Standing};
+ghost use Rattle.descriptor.specs.Decode.{decodingOf, StepIn, reservedBy, standsBy, lateBy, Walking, Standing};
 use crate::rows::class_of;
 use crate::state::next;
-use crate::table::FLAGS;
+use crate::table::LAST_STEP;
 use crate::table::LEAST;
 use crate::table::NEEDED;
 use crate::table::SIDE;
-use crate::table::step_place;
 use rules::State;
 
 // Past an entry, with the place and the state after it, or the number of the first check that it fails.
@@ -30,23 +29,25 @@ pub fn byte_at(s: &[u8], i: usize) -> u8
     0
 }
 
-// The step byte of an entry, by its place, 0 where its ID has none; the entry's start and A are given as one number.
-fn step_in(place: usize, s: &[u8], from: usize) -> u8
-    requires { ⌜ (0 < place → from + place < length (now s)) ⌝ }
-    ensures { λ r. ⌜ r ≡ stepBy place (now (s .entry)) from ⌝ }
+// 5: whether the step of an entry is a reserved code, by the row of its ID; the entry's start and A are given as one number.
+fn reserved_step(row: [u8; 4], s: &[u8], from: usize) -> bool
+    requires { ⌜ StepIn row (now s) from ⌝ }
+    ensures { λ r. ⌜ r ≡ reservedBy row (now (s .entry)) from ⌝ }
 {
-    if 0 < place {
-        return s[from + place];
+    let last = row[LAST_STEP];
+    if 0 < last {
+        let step = s[from + (row[LEAST] as usize) - 1];
+        return (step < last - 3) | (last < step);
     }
-    0
+    false
 }
 
-// Whether an entry with its PropertyFlags at a place is media side, where they are read.
-fn media_at(read: u8, s: &[u8], at: usize) -> bool
-    requires { ⌜ (0 < read → at < length (now s)) ⌝ }
-    ensures { λ r. ⌜ r ≡ mediaSide (ltb 0 read) (byteAt (now (s .entry)) at) ⌝ }
+// Whether an entry with its PropertyFlags at a place is media side, where the least Length has them.
+fn media_at(least: u8, s: &[u8], at: usize) -> bool
+    requires { ⌜ (3 < least → at < length (now s)) ⌝ }
+    ensures { λ r. ⌜ r ≡ mediaSide (ltb 3 least) (byteAt (now (s .entry)) at) ⌝ }
 {
-    if 0 < read {
+    if 3 < least {
         return s[at] % 2 == 1;
     }
     false
@@ -84,10 +85,10 @@ fn content(row: [u8; 4], in_ro: bool, a: usize, s: &[u8], at: usize, st: State) 
     if memory < (row[NEEDED] as usize) {
         return Decoding::Refused(4);
     }
-    if 3 < step_in(step_place(s[at]), s, at + a) {
+    if reserved_step(row, s, at + a) {
         return Decoding::Refused(5);
     }
-    let media = media_at(row[FLAGS], s, at + 3 + a);
+    let media = media_at(row[LEAST], s, at + 3 + a);
     if late_host(s[at], media, st.media) {
         return Decoding::Refused(6);
     }
@@ -100,7 +101,7 @@ fn content(row: [u8; 4], in_ro: bool, a: usize, s: &[u8], at: usize, st: State) 
 // The entry at a place: 1 and 2, then 3 to 7.
 pub fn decode(
     classes: &[u8; 19],
-    rows: &[[u8; 4]; 10],
+    rows: &[[u8; 4]; 11],
     in_ro: bool,
     a: usize,
     s: &[u8],

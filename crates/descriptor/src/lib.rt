@@ -14,7 +14,7 @@ ghost use Rattle.descriptor.specs.EntryLines.{listOf};
 ghost use Rattle.descriptor.specs.Cover.{coverOf};
 
 pub mod columns; // the columns of an entry's line
-mod table; // document 01's table
+mod table; // the table of IDs
 mod rows; // the class of an ID
 mod state; // what a walk keeps
 mod decode; // one entry: the checks 1 to 7
@@ -165,8 +165,8 @@ pub fn entry_bytes<'a>(count: usize, rw: &'a [u8], ro: &'a [u8], entry: usize) -
 }
 
 // What a call needs of the entry that it names: whether it stands in the RO string, its ID, where its fields lie, whether their
-// numbers are signed, the accepted numbers, from low to high and, where there is a code mask, those with a bit in `codes`, and the
-// step.
+// numbers are signed, the accepted numbers, from low to high and, where there is a code mask, those with a bit in `codes`, and
+// the step of a 12h entry.
 pub struct Named {
     pub ro: bool,
     pub id: usize,

@@ -3,8 +3,7 @@ ghost use mathlib.Core.Path.{_≡_};
 ghost use Prim.Native.Nat.{_≤_, _<_};
 ghost use Rattle.rules.specs.Descriptor.{byteAt, highFirst, entryAt};
 ghost use Rattle.descriptor.specs.Rows.{Shapes};
-ghost use Rattle.descriptor.specs.Decode.{stepBy};
-ghost use Rattle.descriptor.specs.Wide.{codesBy};
+ghost use Rattle.descriptor.specs.Wide.{Pair, PairAt, limitBy, stepBy};
 ghost use Rattle.descriptor.specs.Find.{namedOf};
 ghost use Rattle.descriptor.specs.Marks.{OnEntry, markAfter, Passable};
 ghost use Rattle.descriptor.specs.EntryLines.{Short, lineBy, lineAt, lines};
@@ -17,7 +16,6 @@ use crate::table::CLASSES;
 use crate::table::PARTS;
 use crate::table::SHAPES;
 use crate::table::WIDTH;
-use crate::table::step_place;
 use crate::table::values_of;
 
 // A byte of a string as a number, 0 past its end.
@@ -30,7 +28,7 @@ fn byte_from(s: &[u8], at: usize) -> usize
 
 // Two bytes of a string as one number, high byte first.
 fn pair_from(s: &[u8], at: usize) -> usize
-    ensures { λ r. ⌜ (r ≡ highFirst (now (s .entry)) at 2) × (r < 0x10000) ⌝ }
+    ensures { λ r. ⌜ Pair (now (s .entry)) at r ⌝ }
 {
     if at < s.len() {
         return byte_from(s, at) * 256 + byte_from(s, at + 1);
@@ -38,24 +36,34 @@ fn pair_from(s: &[u8], at: usize) -> usize
     0
 }
 
-// The step byte by its place, as the walks read it, 0 past the end of a string.
-fn step_at(place: usize, s: &[u8], from: usize) -> u8
+// The two bytes at a place of an entry, 0 where there is none.
+fn pair_at(place: usize, s: &[u8], from: usize) -> usize
     requires { ⌜ (from ≤ 500) × (place ≤ 255) ⌝ }
-    ensures { λ r. ⌜ r ≡ stepBy place (now (s .entry)) from ⌝ }
+    ensures { λ r. ⌜ PairAt place (now (s .entry)) from r ⌝ }
 {
     if 0 < place {
-        return byte_at(s, from + place);
+        return pair_from(s, from + place);
     }
     0
 }
 
-// The accepted codes, a bit for each, by the place of the code mask; 0 where there is none.
-fn codes_at(place: usize, listed: usize, s: &[u8], from: usize) -> usize
-    requires { ⌜ (from ≤ 500) × (place ≤ 255) ⌝ }
-    ensures { λ r. ⌜ r ≡ codesBy place listed (now (s .entry)) from ⌝ }
+// An end of the accepted numbers: the lowest of some bytes, signed, if it is the entry's own.
+fn limit(own: bool, fixed: i64, bytes: usize) -> i64
+    requires { ⌜ bytes < 0x10000 ⌝ }
+    ensures { λ r. ⌜ r ≡ limitBy own fixed bytes ⌝ }
 {
-    if 0 < place {
-        return listed & pair_from(s, from + place);
+    if own {
+        return ((bytes + 128) % 256) as i64 - 128;
+    }
+    fixed
+}
+
+// The step of a 12h entry, the first of two bytes; 0 for another ID.
+fn step_of(id: u8, pair: usize) -> usize
+    ensures { λ r. ⌜ r ≡ stepBy id pair ⌝ }
+{
+    if id == 0x12 {
+        return pair / 256;
     }
     0
 }
@@ -63,7 +71,7 @@ fn codes_at(place: usize, listed: usize, s: &[u8], from: usize) -> usize
 // What a call needs of the entry at a place of a string. With the rows lent it is small enough to be inlined for both strings.
 pub fn named_at(
     classes: &[u8; 19],
-    shapes: &[[u8; 2]; 10],
+    shapes: &[[u8; 2]; 11],
     in_ro: bool,
     a: usize,
     s: &[u8],
@@ -77,7 +85,7 @@ pub fn named_at(
     let id = byte_at(s, start);
     let shape = shapes[class_of(classes, id)];
     let values = values_of(id);
-    let from = start + a;
+    let pair = pair_at(values.place, s, start + a);
     Named {
         ro: in_ro,
         id: id as usize,
@@ -85,11 +93,11 @@ pub fn named_at(
         parts: shape[PARTS] as usize,
         width: shape[WIDTH] as usize,
         signed: values.signed,
-        low: values.low,
-        high: values.high,
-        coded: 0 < values.place,
-        codes: codes_at(values.place, values.listed, s, from),
-        step: step_at(step_place(id), s, from) as usize,
+        low: limit(values.limited, values.low, pair >> values.min_bit),
+        high: limit(values.limited, values.high, pair >> values.max_bit),
+        coded: 0 < values.listed,
+        codes: values.listed & pair,
+        step: step_of(id, pair),
     }
 }
 
@@ -115,15 +123,15 @@ fn line_of(mask: usize, f: Named) -> [u16; 9]
         f.parts as u16,
         f.width as u16,
         f.signed as u16,
-        (0 - f.low) as u16,
-        f.high as u16,
+        (f.low + 128) as u16,
+        (f.high + 128) as u16,
         f.coded as u16,
         f.codes as u16,
     ]
 }
 
 // The line of the entry at a mark of the RW string.
-fn line_at(classes: &[u8; 19], shapes: &[[u8; 2]; 10], a: usize, s: &[u8], mark: Mark) -> [u16; 9]
+fn line_at(classes: &[u8; 19], shapes: &[[u8; 2]; 11], a: usize, s: &[u8], mark: Mark) -> [u16; 9]
     requires { ⌜ Shapes (now classes) (now shapes) ⌝ }
     requires { ⌜ (1 ≤ a) × (a ≤ 2) × OnEntry a (now s) mark ⌝ }
     ensures { λ r. ⌜ r ≡ lineAt a (now (s .entry)) mark ⌝ }

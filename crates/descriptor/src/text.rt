@@ -100,7 +100,7 @@ fn put_entry(out: &mut [u8; 1024], at: usize, a: usize, s: &[u8], from: usize, s
 // A line for each entry of a string, up to its end or an entry that fails a check.
 fn put_entries(
     classes: &[u8; 19],
-    rows: &[[u8; 4]; 10],
+    rows: &[[u8; 4]; 11],
     in_ro: bool,
     a: usize,
     s: &[u8],

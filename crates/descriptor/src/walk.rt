@@ -24,7 +24,7 @@ fn stopped(d: Decoding, number: usize) -> Walked
 // The walk of a string from a place on, with what it keeps of all that stands before it.
 pub fn scan(
     classes: &[u8; 19],
-    rows: &[[u8; 4]; 10],
+    rows: &[[u8; 4]; 11],
     in_ro: bool,
     a: usize,
     s: &[u8],

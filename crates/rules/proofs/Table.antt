@@ -1,4 +1,4 @@
--- Document 01's table and the numbers of its fields.
+-- The table of IDs and the numbers of their fields.
 pub mod Rows
 pub mod Columns
 pub mod Numbers

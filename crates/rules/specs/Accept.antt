@@ -7,7 +7,7 @@ use lib.Signed.{leZ}
 use lib.Dec.{ltb}
 use Rattle.rules.specs.Words.{Entry}
 use Rattle.rules.specs.Numbers.{bitOf}
-use Rattle.rules.specs.Parameter.{Position, absent, after, Range, rowOf}
+use Rattle.rules.specs.Parameter.{Range, Values, numbers, ifInMask, minToMax, rowOf}
 
 -- the numbers of the table's last column
 unfoldable pub within : List Range → ℤ → Bool
@@ -19,15 +19,6 @@ unfoldable pub inMask : ℕ → ℤ → Bool
 inMask mask (pos n) = bitOf mask n
 inMask mask (negsuc n) = false
 
--- an ID without a code mask has none to ask
-unfoldable pub inCodes : Position → ℕ → ℤ → Bool
-inCodes absent mask v = true
-inCodes (after n) mask v = inMask mask v
-
--- "accepted values" of an entry: in the column's numbers and, for an ID with a code mask, "if in the mask"
-unfoldable pub accepts : Entry → ℤ → Bool
-accepts e v = within (rowOf (e .id) .values) v && inCodes (rowOf (e .id) .codesAt) (e .codes) v
-
 -- the w bits that stand for a number, "as an unsigned pattern"
 unfoldable pub toBits : ℕ → ℤ → ℕ
 toBits w (pos n) = n
@@ -37,6 +28,19 @@ toBits w (negsuc n) = 2 ^ w - suc n
 unfoldable pub fromBits : Bool → ℕ → ℕ → ℤ
 fromBits false w n = pos n
 fromBits true w n = cond (ltb n (2 ^ (w - 1))) (pos n) (negsuc (2 ^ w - suc n))
+
+-- Min and Max are signed bytes (S8)
+abbrev pub signedByte : ℕ → ℤ
+signedByte n = fromBits true 8 n
+
+-- "accepted values" of an entry: the column's numbers; "if in the mask"; 02, note 1: "ranges", from its Min to its Max
+unfoldable pub takes : Values → Entry → ℤ → Bool
+takes (numbers l) e v = within l v
+takes (ifInMask l) e v = within l v && inMask (e .codes) v
+takes minToMax e v = leZ (signedByte (e .min)) v && leZ v (signedByte (e .max))
+
+unfoldable pub accepts : Entry → ℤ → Bool
+accepts e v = takes (rowOf (e .id) .values) e v
 
 -- "times 10, 20, 25 or 40 for step 0 to 3, in thousandths"
 abbrev pub thousandths : ℕ → ℕ

@@ -1,25 +1,19 @@
--- "Every rule about an ID is read from this table": the table line by line as 01 prints it, and what its columns say of an ID as facts.
+-- "Every rule about an ID is read from this table": the table line by line as 01 prints it, 02's lines after it, and what its columns say of an ID as facts.
 -- Parameter has the same cells by ID, for the definitions; demands 1 and 2 join the two, so that a slip in either is refused.
 use mathlib.Core.Path.{_≡_}
 use mathlib.Core.Logic.{_⊎_}
 use mathlib.Core.List.{List, [], _∷_}
-use Prim.Native.Nat.{ℕ, _+_, _*_, _/_, _%_, _^_, _≤_, _<_}
+use Prim.Native.Nat.{ℕ, _+_, _-_, _*_, _/_, _%_, _^_, _≤_, _<_}
 use lib.IntN.{ℤ, pos, negsuc}
 use lib.Signed.{_≤ℤ_}
 use Rattle.rules.specs.Words.{Entry}
+use Rattle.rules.specs.Parameter.{Extra, index, target, codeMask, min, max, step, Range, Values, numbers, ifInMask, minToMax}
 use Rattle.rules.specs.Descriptor.{byteAt}
-
-pub data Extra : Type 0 where
-  index codeMask step : Extra
 
 -- from one number to another, both included
 infix 70 _⋯_
-abbrev pub _⋯_ : ℕ → ℕ → ℤ × ℤ
-a ⋯ b = (pos a, pos b)
-
--- the accepted values: some numbers, or those of them that are in the entry's code mask
-pub data Values : Type 0 where
-  numbers ifInMask : List (ℤ × ℤ) → Values
+abbrev pub _⋯_ : ℤ → ℤ → Range
+a ⋯ b = record { low = a; high = b }
 
 -- the cells of a line; `least` is without A. The column of sides is said by 3 (Conditions).
 pub record Cells : Type 0 where
@@ -28,31 +22,38 @@ pub record Cells : Type 0 where
   pub needed : ℕ
   pub least : ℕ
   pub extras : List Extra
+  pub steps : ℕ × ℕ
   pub values : Values
 
 pub record Line : Type 0 where
   pub ids : List ℕ
   pub cells : Cells
 
-abbrev pub line : List ℕ → ℕ → ℕ → ℕ → ℕ → List Extra → Values → Line
-line i p w n l x v = record { ids = i; cells = record { parts = p; width = w; needed = n; least = l; extras = x; values = v } }
+abbrev pub line : List ℕ → ℕ → ℕ → ℕ → ℕ → List Extra → ℕ × ℕ → Values → Line
+line i p w n l x t v = record { ids = i; cells = record { parts = p; width = w; needed = n; least = l; extras = x; steps = t; values = v } }
 
--- IDs; parts, bits a lane, bytes needed, least Length (+ A); extras; accepted values (`negsuc 127` is −128)
+-- IDs; parts, bits a lane, bytes needed, least Length (+ A); extras; first and last step code
+-- that is not reserved (0 alone where there is no step); accepted values (`negsuc 127` is −128)
 abbrev pub lines : List Line
 lines =
-    line (0x02 ∷ 0x05 ∷ 0x06 ∷ []) 1 1 1 4 [] (numbers (0 ⋯ 1 ∷ []))
-    ∷ line (0x03 ∷ []) 1 2 2 4 [] (numbers (0 ⋯ 2 ∷ []))
-    ∷ line (0x04 ∷ []) 1 4 4 6 (codeMask ∷ []) (ifInMask (0 ⋯ 15 ∷ []))
-    ∷ line (0x07 ∷ []) 2 4 8 7 (index ∷ codeMask ∷ []) (ifInMask (0 ⋯ 7 ∷ 11 ⋯ 15 ∷ []))
-    ∷ line (0x08 ∷ []) 1 4 4 6 (codeMask ∷ []) (ifInMask (0 ⋯ 3 ∷ 15 ⋯ 15 ∷ []))
-    ∷ line (0x0F ∷ 0x10 ∷ []) 1 8 8 4 [] (numbers (0 ⋯ 255 ∷ []))
-    ∷ line (0x11 ∷ []) 2 8 16 4 [] (numbers ((negsuc 127, pos 127) ∷ []))
-    ∷ line (0x12 ∷ []) 1 8 8 6 (index ∷ step ∷ []) (numbers ((negsuc 127, pos 127) ∷ []))
+    line (0x02 ∷ 0x05 ∷ 0x06 ∷ []) 1 1 1 4 [] (0, 0) (numbers (pos 0 ⋯ pos 1 ∷ []))
+    ∷ line (0x03 ∷ []) 1 2 2 4 [] (0, 0) (numbers (pos 0 ⋯ pos 2 ∷ []))
+    ∷ line (0x04 ∷ []) 1 4 4 6 (codeMask ∷ []) (0, 0) (ifInMask (pos 0 ⋯ pos 15 ∷ []))
+    ∷ line (0x07 ∷ []) 2 4 8 7 (index ∷ codeMask ∷ []) (0, 0) (ifInMask (pos 0 ⋯ pos 7 ∷ pos 11 ⋯ pos 15 ∷ []))
+    ∷ line (0x08 ∷ []) 1 4 4 6 (codeMask ∷ []) (0, 0) (ifInMask (pos 0 ⋯ pos 3 ∷ pos 15 ⋯ pos 15 ∷ []))
+    ∷ line (0x0F ∷ 0x10 ∷ []) 1 8 8 4 [] (0, 0) (numbers (pos 0 ⋯ pos 255 ∷ []))
+    ∷ line (0x11 ∷ []) 2 8 16 4 [] (0, 0) (numbers (negsuc 127 ⋯ pos 127 ∷ []))
+    ∷ line (0x12 ∷ []) 1 8 8 6 (index ∷ step ∷ []) (0, 3) (numbers (negsuc 127 ⋯ pos 127 ∷ []))
+    -- 02, note 1; 09h and 0Ah: 5.11, 5.12; 0Bh and 0Ch: 5.13, 5.14; 0Dh: 5.15; 0Eh: 5.16
+    ∷ line (0x09 ∷ 0x0A ∷ []) 1 8 8 8 (target ∷ min ∷ max ∷ step ∷ []) (1, 4) minToMax
+    ∷ line (0x0B ∷ 0x0C ∷ []) 1 1 1 4 [] (0, 0) (numbers (pos 0 ⋯ pos 1 ∷ []))
+    ∷ line (0x0D ∷ []) 1 8 8 8 (index ∷ max ∷ min ∷ step ∷ []) (0, 3) minToMax
+    ∷ line (0x0E ∷ []) 1 4 4 6 (codeMask ∷ []) (0, 0) (ifInMask (pos 0 ⋯ pos 15 ∷ []))
     ∷ []
 
--- "00h reserves space. 01h, 09h to 0Eh and 13h to FFh are opaque: space, no fields."
+-- 00h "reserves space", 01h and 13h to FFh "are opaque: space, no fields"
 abbrev pub Space : ℕ → Type 0
-Space id = (id ≡ 0x00) ⊎ ((id ≡ 0x01) ⊎ (((0x09 ≤ id) × (id ≤ 0x0E)) ⊎ (0x13 ≤ id)))
+Space id = (id ≡ 0x00) ⊎ ((id ≡ 0x01) ⊎ (0x13 ≤ id))
 
 abbrev pub Among : ℕ → List ℕ → Type 0
 Among id [] = ⊥
@@ -71,22 +72,27 @@ abbrev pub InTable : ℕ → Type 0
 InTable id = OfLine id (λ c. Unit {0})
 
 -- "accepted values": a number is in one of the ranges
-abbrev pub InRanges : List (ℤ × ℤ) → ℤ → Type 0
+abbrev pub InRanges : List Range → ℤ → Type 0
 InRanges [] v = ⊥
-InRanges (r ∷ l) v = ((r .0 ≤ℤ v) × (v ≤ℤ r .1)) ⊎ InRanges l v
+InRanges (r ∷ l) v = ((r .low ≤ℤ v) × (v ≤ℤ r .high)) ⊎ InRanges l v
 
 -- "value v is in it if bit v is 1"
 abbrev pub InMask : ℕ → ℤ → Type 0
 InMask mask (pos n) = mask / 2 ^ n % 2 ≡ 1
 InMask mask (negsuc n) = ⊥
 
-abbrev pub Takes : Values → ℕ → ℤ → Type 0
-Takes (numbers l) mask v = InRanges l v
-Takes (ifInMask l) mask v = InRanges l v × InMask mask v
+-- a byte of two's complement: 00h to 7Fh are 0 to 127, 80h to FFh are −128 to −1
+abbrev pub SignedByte : ℕ → ℤ → Type 0
+SignedByte n z = ((n < 128) × (z ≡ pos n)) ⊎ ((128 ≤ n) × (z ≡ negsuc (255 - n)))
 
--- an ID with a code mask accepts a number; an ID without a line accepts none
-abbrev pub Accepts : ℕ → ℕ → ℤ → Type 0
-Accepts id mask v = OfLine id (λ c. Takes (c .values) mask v)
+abbrev pub Takes : Values → Entry → ℤ → Type 0
+Takes (numbers l) e v = InRanges l v
+Takes (ifInMask l) e v = InRanges l v × InMask (e .codes) v
+Takes minToMax e v = (low : ℤ) × (high : ℤ) × SignedByte (e .min) low × SignedByte (e .max) high × (low ≤ℤ v) × (v ≤ℤ high)
+
+-- an entry accepts a number; one whose ID has no line accepts none
+abbrev pub Accepts : Entry → ℤ → Type 0
+Accepts e v = OfLine (e .id) (λ c. Takes (c .values) e v)
 
 -- a Length is "below the least", a MemoryLength "below the bytes needed"; "Both kinds have least Length 3 + A and need 0 bytes"
 abbrev pub BelowLeast : ℕ → ℕ → ℕ → Type 0
@@ -99,23 +105,33 @@ BelowNeeded id memory = OfLine id (λ c. memory < c .needed) ⊎ (Space id × (m
 abbrev pub Shaped : ℕ → ℕ → ℕ → Type 0
 Shaped id parts width = OfLine id (λ c. (parts ≡ c .parts) × (width ≡ c .width)) ⊎ (Space id × (parts ≡ 0))
 
--- "A field of 11h or 12h holds a two's complement number, any other an unsigned one."
+-- "A field of 11h or 12h holds a two's complement number, any other an unsigned one."; 02, note 1: "A field with a signed range holds
+-- a two's complement number, as 11h does."
+abbrev pub signedIds : List ℕ
+signedIds = 0x11 ∷ 0x12 ∷ 0x09 ∷ 0x0A ∷ 0x0D ∷ []
+
 abbrev pub TwosComplement : ℕ → Type 0
-TwosComplement id = (id ≡ 0x11) ⊎ (id ≡ 0x12)
+TwosComplement id = Among id signedIds
 
 -- what an entry says of its extras is what a string says from a place on: "A code mask is 2 bytes, high byte first"
 abbrev pub ExtrasAt : List Extra → List ℕ → ℕ → Entry → Type 0
 ExtrasAt [] s at e = Unit {0}
 ExtrasAt (index ∷ l) s at e = ExtrasAt l s (at + 1) e
+ExtrasAt (target ∷ l) s at e = ExtrasAt l s (at + 1) e
 ExtrasAt (codeMask ∷ l) s at e = (e .codes ≡ byteAt s at * 256 + byteAt s (at + 1)) × ExtrasAt l s (at + 2) e
+ExtrasAt (min ∷ l) s at e = (e .min ≡ byteAt s at) × ExtrasAt l s (at + 1) e
+ExtrasAt (max ∷ l) s at e = (e .max ≡ byteAt s at) × ExtrasAt l s (at + 1) e
 ExtrasAt (step ∷ l) s at e = (e .step ≡ byteAt s at) × ExtrasAt l s (at + 1) e
 
--- "step above 3", of extras that a string has from a place on
-abbrev pub StepAbove : List Extra → List ℕ → ℕ → Type 0
-StepAbove [] s at = ⊥
-StepAbove (index ∷ l) s at = StepAbove l s (at + 1)
-StepAbove (codeMask ∷ l) s at = StepAbove l s (at + 2)
-StepAbove (step ∷ l) s at = (3 < byteAt s at) ⊎ StepAbove l s (at + 1)
+-- "step above 3", "a reserved step code": of extras that a string has from a place on, with the first and the last code that is not
+abbrev pub ReservedStep : ℕ × ℕ → List Extra → List ℕ → ℕ → Type 0
+ReservedStep t [] s at = ⊥
+ReservedStep t (index ∷ l) s at = ReservedStep t l s (at + 1)
+ReservedStep t (target ∷ l) s at = ReservedStep t l s (at + 1)
+ReservedStep t (codeMask ∷ l) s at = ReservedStep t l s (at + 2)
+ReservedStep t (min ∷ l) s at = ReservedStep t l s (at + 1)
+ReservedStep t (max ∷ l) s at = ReservedStep t l s (at + 1)
+ReservedStep t (step ∷ l) s at = (byteAt s at < t .0) ⊎ (t .1 < byteAt s at)
 
 -- "PropertyFlags, 1 byte; then the extras named in the table", for an entry of a string with masks of a bytes
 abbrev pub ExtrasRead : ℕ → List ℕ → Entry → Type 0

@@ -14,7 +14,7 @@ use Rattle.rules.specs.Load.{start, next, intoRO, Map}
 use Rattle.rules.specs.Place.{entry, partsOf, lengthOf}
 use Rattle.rules.specs.Layout.{bankSize}
 use Rattle.rules.specs.Bank.{Bank, appSelIn, numberIn}
-use Rattle.rules.specs.Columns.{Accepts, BelowLeast, BelowNeeded, InTable, OfLine, StepAbove}
+use Rattle.rules.specs.Columns.{Accepts, BelowLeast, BelowNeeded, InTable, OfLine, ReservedStep}
 
 -- a rule tells which refusals it gives; A is a refusal, or a number alone
 abbrev pub Rule : Type 0 → Type 1
@@ -51,7 +51,7 @@ entryRules ro a s at st =
     ∷ gives 2 (BelowLeast a id size)
     ∷ gives 3 (WrongString ro id)
     ∷ gives 4 (BelowNeeded id memory)
-    ∷ gives 5 (OfLine id (λ c. StepAbove (c .extras) s (at + 4 + a)))
+    ∷ gives 5 (OfLine id (λ c. ReservedStep (c .steps) (c .extras) s (at + 4 + a)))
     ∷ gives 6 ((0x02 ≤ id) × (id ≤ 0x08) × (¬ (MediaSide a s at)) × (st .media ≡ true))
     ∷ gives 7 (256 < st .sum + memory)
     ∷ []
@@ -127,11 +127,11 @@ Misdirected m (apply s lanes) = s ≡ 2
 -- 12: "value or app not accepted"
 abbrev pub Unaccepted : Map → Call → Type 0
 Unaccepted m (select s i a) = m .count < a
-Unaccepted m (write s e p i v) = ¬ (Accepts (entry m e .id) (entry m e .codes) v)
+Unaccepted m (write s e p i v) = ¬ (Accepts (entry m e) v)
 Unaccepted m (read s e p i) = ⊥
 Unaccepted m (byteWrite s k v) = ⊥
 Unaccepted m (byteRead s k) = ⊥
-Unaccepted m (publish e p i v) = ¬ (Accepts (entry m e .id) (entry m e .codes) v)
+Unaccepted m (publish e p i v) = ¬ (Accepts (entry m e) v)
 Unaccepted m (apply s lanes) = ⊥
 
 -- The host's plan, "at apply, with the lowest such lane"
@@ -160,7 +160,7 @@ pub record HoldsBad (m : Map) (b : Bank) (s lanes i : ℕ) : Type 0 where
   pub ent : e < m .rwCount
   pub part : p < partsOf (entry m e)
   pub copied : Copied m b s lanes e i
-  pub bad : ¬ (Accepts (entry m e .id) (entry m e .codes) (numberIn m b s e p i))
+  pub bad : ¬ (Accepts (entry m e) (numberIn m b s e p i))
 
 abbrev pub planRules : Map → Call → Bank → List (Rule Refusal)
 planRules m (select s i a) b = []

@@ -140,12 +140,12 @@ pub record OwnerAndPlace (count : ℕ) (rw ro : List ℕ) : Type 0 where
   pub offsets : (e : ℕ) → e < length (mapOf count rw ro .entries) → entry (mapOf count rw ro) e .offset ≡ total (take e (mapOf count rw ro .entries))
   -- "hands back that entry's own bytes"
   pub own-bytes : (e : ℕ) → e < length (mapOf count rw ro .entries) → OwnBytes count rw ro e
-  -- "Every rule about an ID is read from this table": the accepted values of an entry, by its ID and its code mask; its parts and bits a lane
+  -- "Every rule about an ID is read from this table": the accepted values of an entry, by its ID, its code mask, its Min and Max; its parts and bits a lane
   pub accepted-values : (e : ℕ) (v : ℤ)
-      → T (accepts (entry (mapOf count rw ro) e) v) ↔ Accepts (entry (mapOf count rw ro) e .id) (entry (mapOf count rw ro) e .codes) v
+      → T (accepts (entry (mapOf count rw ro) e) v) ↔ Accepts (entry (mapOf count rw ro) e) v
   pub shapes : (e : ℕ)
       → Shaped (entry (mapOf count rw ro) e .id) (partsOf (entry (mapOf count rw ro) e)) (widthOf (entry (mapOf count rw ro) e))
-  -- "A field of 11h or 12h holds a two's complement number, any other an unsigned one."
+  -- "A field of 11h or 12h holds a two's complement number, any other an unsigned one."; 02, note 1: and one "with a signed range"
   pub signs : (e : ℕ) → (signedOf (entry (mapOf count rw ro) e) ≡ true) ↔ TwosComplement (entry (mapOf count rw ro) e .id)
   -- "then the extras named in the table"
   pub rw-extras : (n : ℕ) → n < length (rwEntries count rw) → ExtrasRead (maskBytes count) rw (getD (rwEntries count rw) n nothing)

@@ -1,12 +1,12 @@
 -- "What a module advertises": the bytes of one entry; and "Refusals": the checks 1 to 7 of one entry, in their order.
 use mathlib.Core.Bool.{Bool, true, false, _&&_, _||_, not, cond}
-use mathlib.Core.List.{List}
+use mathlib.Core.List.{List, [], _∷_}
 use Prim.Native.Nat.{ℕ, zero, suc, _+_, _-_, _*_, _%_}
 use lib.ListN.{length, getD}
 use lib.Dec.{ltb, leb, eqb}
 use Rattle.rules.specs.Words.{Entry, Decoded, decoded, failed, State}
 use Rattle.rules.specs.Numbers.{bitOf}
-use Rattle.rules.specs.Parameter.{Side, RW, RO, both, Position, absent, after, rowOf}
+use Rattle.rules.specs.Parameter.{Side, RW, RO, both, Extra, index, target, codeMask, min, max, step, rowOf}
 
 -- "A, the bytes of an application mask, is 1 for a count of 1 to 8 and 2 above."
 unfoldable pub maskBytes : ℕ → ℕ
@@ -28,14 +28,49 @@ unfoldable pub highFirst : List ℕ → ℕ → ℕ → ℕ
 highFirst s at zero = 0
 highFirst s at (suc n) = highFirst s at n * 256 + byteAt s (at + n)
 
--- "then the extras named in the table", from a place on: the code mask ("2 bytes, high byte first") and the step, 0 where there is none
+-- an extra's bytes: "A code mask is 2 bytes"
+abbrev pub sizeOf : Extra → ℕ
+sizeOf codeMask = 2
+sizeOf index = 1
+sizeOf target = 1
+sizeOf min = 1
+sizeOf max = 1
+sizeOf step = 1
+
+-- the place of an extra that is read: an ID without it, or so many bytes past PropertyFlags
+pub data Position : Type 0 where
+  absent : Position
+  after : ℕ → Position
+
+abbrev pub further : ℕ → Position → Position
+further n absent = absent
+further n (after k) = after (n + k)
+
+-- the extras, told apart by a number
+abbrev pub kind : Extra → ℕ
+kind index = 0
+kind target = 1
+kind codeMask = 2
+kind min = 3
+kind max = 4
+kind step = 5
+
+abbrev pub same : Extra → Extra → Bool
+same x y = eqb (kind x) (kind y)
+
+-- "then the extras named in the table", one after the other
+abbrev pub positionOf : Extra → List Extra → Position
+positionOf x [] = absent
+positionOf x (y ∷ l) = cond (same x y) (after 0) (further (sizeOf y) (positionOf x l))
+
+-- what stands there, from PropertyFlags' next byte on: a code mask ("2 bytes, high byte first"), and any other extra; 0 where there is none
 unfoldable pub codesOf : Position → List ℕ → ℕ → ℕ
 codesOf absent s at = 0
 codesOf (after n) s at = highFirst s (at + n) 2
 
-unfoldable pub stepOf : Position → List ℕ → ℕ → ℕ
-stepOf absent s at = 0
-stepOf (after n) s at = byteAt s (at + n)
+unfoldable pub byteOf : Position → List ℕ → ℕ → ℕ
+byteOf absent s at = 0
+byteOf (after n) s at = byteAt s (at + n)
 
 -- "for the IDs of the table, PropertyFlags, 1 byte"; the others' "flags are not read". "Bit 0 set means media side"
 abbrev pub mediaSide : Bool → ℕ → Bool
@@ -53,8 +88,10 @@ entryAt a s at offset =
       mask = highFirst s (at + 2) a;
       memory = byteAt s (at + 2 + a);
       media = mediaSide (rowOf (byteAt s at) .flags) (byteAt s (at + 3 + a));
-      codes = codesOf (rowOf (byteAt s at) .codesAt) s (at + 4 + a);
-      step = stepOf (rowOf (byteAt s at) .stepAt) s (at + 4 + a);
+      codes = codesOf (positionOf codeMask (rowOf (byteAt s at) .extras)) s (at + 4 + a);
+      min = byteOf (positionOf min (rowOf (byteAt s at) .extras)) s (at + 4 + a);
+      max = byteOf (positionOf max (rowOf (byteAt s at) .extras)) s (at + 4 + a);
+      step = byteOf (positionOf step (rowOf (byteAt s at) .extras)) s (at + 4 + a);
       offset = offset;
     }
 
@@ -68,7 +105,8 @@ mayStand both ro = true
 abbrev pub overruns : ℕ → Entry → Bool
 overruns left e = eqb left 1 || ltb left (e .length)
 
--- 6: "an ID of 02h to 08h, host side, after a media-side table entry of the RW string" (in the RO string such an ID fails 3)
+-- 6: "an ID of 02h to 08h, host side, after a media-side table entry of the RW string" (in the RO string such an ID fails 3); 02, note 1:
+-- 09h to 0Eh "only as the earlier media-side entry"
 abbrev pub lateHost : Entry → Bool → Bool
 lateHost e passed = leb 2 (e .id) && (leb (e .id) 8 && (not (e .media) && passed))
 
@@ -84,12 +122,16 @@ lengthChecks a left e rest =
     (refuse (ltb (e .length) (rowOf (e .id) .least + a)) 2
     rest)
 
--- 3: "ID in the wrong string"; 4: "MemoryLength below the bytes needed"; 5: "step above 3"; 6; 7: "the sum of MemoryLengths passes 256"
+-- 5: "step above 3"; 02, note 1: "a reserved step code"
+abbrev pub reserved : ℕ × ℕ → ℕ → Bool
+reserved steps n = ltb n (steps .0) || ltb (steps .1) n
+
+-- 3: "ID in the wrong string"; 4: "MemoryLength below the bytes needed"; 5; 6; 7: "the sum of MemoryLengths passes 256"
 unfoldable pub contentChecks : Bool → State → Entry → Decoded
 contentChecks ro st e =
     refuse (not (mayStand (rowOf (e .id) .side) ro)) 3
     (refuse (ltb (e .memory) (rowOf (e .id) .needed)) 4
-    (refuse (ltb 3 (e .step)) 5
+    (refuse (reserved (rowOf (e .id) .steps) (e .step)) 5
     (refuse (lateHost e (st .media)) 6
     (refuse (ltb 256 (st .sum + e .memory)) 7
     (decoded e)))))

@@ -11,7 +11,7 @@ use Rattle.rules.specs.Layout.{HasBytes, hasBytes}
 
 -- what stands past the last entry: an entry without fields
 abbrev pub nothing : Entry
-nothing = record { id = 0; start = 0; length = 0; mask = 0; memory = 0; media = false; codes = 0; step = 0; offset = 0 }
+nothing = record { id = 0; start = 0; length = 0; mask = 0; memory = 0; media = false; codes = 0; min = 0; max = 0; step = 0; offset = 0 }
 
 abbrev pub entry : Map → ℕ → Entry
 entry m e = getD (m .entries) e nothing
@@ -29,7 +29,7 @@ pub record Width (w : ℕ) : Type 0 where
   pub lanes : ℕ
   pub fills : lanes * w ≡ 8
 
--- "A field of 11h or 12h holds a two's complement number, any other an unsigned one."
+-- "A field of 11h or 12h holds a two's complement number, any other an unsigned one."; 02, note 1: and one "with a signed range"
 unfoldable pub signedOf : Entry → Bool
 signedOf e = rowOf (e .id) .signed
 

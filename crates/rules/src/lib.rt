@@ -40,7 +40,7 @@ pub enum Refusal {
 }
 
 // An entry of a descriptor string, decoded: where it starts in its string, what its bytes say, and its offset in a set.
-// `media` is PropertyFlags bit 0 of an ID of the table; `codes` and `step` are 0 where the ID has no such extra.
+// `media` is PropertyFlags bit 0 of an ID of the table; `codes`, `min`, `max` (as bytes) and `step` are 0 where the ID has no such extra.
 pub struct Entry {
     pub id: usize,
     pub start: usize,
@@ -49,6 +49,8 @@ pub struct Entry {
     pub memory: usize,
     pub media: bool,
     pub codes: usize,
+    pub min: usize,
+    pub max: usize,
     pub step: usize,
     pub offset: usize,
 }

@@ -105,6 +105,14 @@ impl Said {
             Said::Answered(answered) => (answered.refusal, answered.at),
         }
     }
+
+    /// The number that it answers, or 0.
+    fn number(&self) -> i64 {
+        match self {
+            Said::Loaded(_) => 0,
+            Said::Answered(answered) => answered.number,
+        }
+    }
 }
 
 /// The row and the engine's answer of a call.
@@ -209,10 +217,12 @@ impl fmt::Debug for After<'_> {
     }
 }
 
-/// A call that the programs agree on: its refusal number, 0 for none, the entry or lane that it names, and the bank before it.
+/// A call that the programs agree on: its refusal number, 0 for none, the entry or lane that it names, the number that it
+/// answers, and the bank before it.
 pub struct Agreed {
     pub refusal: usize,
     pub at: usize,
+    pub number: i64,
     pub before: Vec<u8>,
 }
 
@@ -244,7 +254,8 @@ pub fn compare(report: &mut Report, case: &Case, bank: &mut Bank, call: Call) ->
     if matches!(call, Call::Fresh) && refusal == 0 {
         bank.table = Table::fresh(case.count, case.rw, case.ro).ok();
     }
-    Some(Agreed { refusal, at, before: before[..length].to_vec() })
+    let number = engine.said.number();
+    Some(Agreed { refusal, at, number, before: before[..length].to_vec() })
 }
 
 /// Compares the bank with the plain table, if a fresh was accepted: every byte, then through the engine the numbers of these

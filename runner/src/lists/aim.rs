@@ -10,7 +10,7 @@ use crate::calls::load;
 use crate::case::Case;
 use crate::engine::{self, FlatCall, Loaded};
 use crate::random::Random;
-use crate::shape::{mask_bytes, parts, shape};
+use crate::shape::{self, mask_bytes, parts, shape};
 use crate::strings::{LARGEST, RO, RW};
 
 /// Values at the edges of what the widths hold and the table accepts.
@@ -23,13 +23,16 @@ const VALUES: [i64; 20] = [
 pub struct Target {
     pub entry: usize,
     pub parts: usize,
+    pub id: u8,
     /// Its application mask, bits above the count included.
     mask: usize,
+    /// Min and Max of 09h, 0Ah and 0Dh.
+    pub range: Option<[i64; 2]>,
     /// Values that write accepts, and whether a byte write stores others.
     pub values: Vec<i64>,
     spoils: bool,
     /// The bytes of its fields in a set.
-    bytes: Range<usize>,
+    pub bytes: Range<usize>,
 }
 
 impl Target {
@@ -41,9 +44,10 @@ impl Target {
 pub struct Aim {
     pub accepted: bool,
     pub loaded: Loaded,
-    /// The IDs of an accepted map, and where its entries start in their string.
+    /// The IDs of an accepted map, where its entries start in their string, and their Min and Max.
     pub ids: Vec<u8>,
     starts: Vec<usize>,
+    ranges: Vec<Option<[i64; 2]>>,
     /// The entries with fields, by their string, and more of those in RW.
     pub fields: [Vec<usize>; 2],
     pub targets: Vec<Target>,
@@ -62,14 +66,17 @@ impl Aim {
                 fields[usize::from(entry.in_ro)].push(number);
             }
         }
+        let ranges: Vec<Option<[i64; 2]>> = entries.iter().map(|entry| range(case, entry)).collect();
         let target = |&entry: &usize| {
             let EntryInfo { id, start, offset, .. } = entries[entry];
             Target {
                 entry,
                 parts: parts(id),
+                id,
                 mask: mask(case, start),
-                values: accepted_values(case, entry),
-                spoils: matches!(id, 0x03 | 0x04 | 0x07 | 0x08),
+                range: ranges[entry],
+                values: accepted_values(case, entry, ranges[entry]),
+                spoils: !matches!(id, 0x02 | 0x05 | 0x06 | 0x0B | 0x0C | 0x0F | 0x10),
                 bytes: offset..offset + usize::from(shape(id).needed),
             }
         };
@@ -79,6 +86,7 @@ impl Aim {
             ids: entries.iter().map(|entry| entry.id).collect(),
             starts: entries.iter().map(|entry| entry.start).collect(),
             targets: fields[RW].iter().map(target).collect(),
+            ranges,
             fields,
             weights: (0..entries.len()).filter(|&number| entries[number].id == 0x12).collect(),
             count: case.count.min(16),
@@ -124,6 +132,18 @@ impl Aim {
             list.push(Call::Listed(Select { set, lane: random.within(1, 8), app: 0 }));
         }
         list.push(Call::Listed(Apply { set, lanes }));
+        self.read_back(random, set, lanes, list);
+    }
+
+    /// Reads of a field in a chosen lane, staged and active.
+    fn read_back(&self, random: &Random, set: usize, lanes: u8, list: &mut Vec<Call>) {
+        let lanes: Vec<usize> = chosen(lanes).collect();
+        if self.targets.is_empty() || lanes.is_empty() {
+            return;
+        }
+        let Target { entry, parts, .. } = self.targets[random.below(self.targets.len())];
+        let (part, lane) = (random.below(parts), random.pick(&lanes));
+        list.extend([set, 2].map(|set| Call::Listed(Read { set, entry, part, lane })));
     }
 
     /// Bytes of an entry that may hold values which are not accepted: all of them or a few.
@@ -132,10 +152,14 @@ impl Aim {
         if can.is_empty() {
             return;
         }
-        let Target { bytes, .. } = random.pick(&can);
+        let Target { bytes, range, .. } = random.pick(&can);
         let all = random.once_in(3);
         for offset in bytes.clone().filter(|_| all || random.once_in(2)) {
-            list.push(Call::Listed(ByteWrite { set, offset, byte: random.pick(&[0xFF, random.byte()]) }));
+            let byte = match range {
+                Some([min, max]) => random.pick(&[min - 1, max + 1, random.byte().into()]) as u8,
+                None => random.pick(&[0xFF, random.byte()]),
+            };
+            list.push(Call::Listed(ByteWrite { set, offset, byte }));
         }
     }
 
@@ -166,7 +190,10 @@ impl Aim {
             }
             19..=28 => ByteRead { set, offset: self.offset(random, set) },
             29..=37 => Select { set: staged, lane, app: random.about(self.count + 1) },
-            38..=48 => Write { set: staged, entry: self.entry(random, RW), part, lane, value: value(random) },
+            38..=48 => {
+                let entry = self.entry(random, RW);
+                Write { set: staged, entry, part, lane, value: self.value(random, entry) }
+            }
             49..=59 => Read { set, entry: self.entry(random, string), part, lane },
             60..=68 => Publish { entry: self.entry(random, RO), part, lane, value: value(random) },
             _ => Apply { set: staged, lanes: random.pick(&[0, 0xFF, 1 << random.below(8), random.byte()]) },
@@ -197,6 +224,22 @@ impl Aim {
             random.about(self.loaded.entries())
         } else {
             random.pick(fields)
+        }
+    }
+
+    /// Min and Max of an entry that has them.
+    pub fn range(&self, entry: usize) -> Option<[i64; 2]> {
+        self.ranges.get(entry).copied().flatten()
+    }
+
+    /// A value for an entry: about its Min and Max, if it has them, or any.
+    fn value(&self, random: &Random, entry: usize) -> i64 {
+        match self.range(entry) {
+            Some([min, max]) if !random.once_in(4) => {
+                let between = random.within(0, (max - min).unsigned_abs() as usize) as i64;
+                random.pick(&[min - 1, min, max, max + 1, min.min(max) + between])
+            }
+            _ => value(random),
         }
     }
 
@@ -245,12 +288,23 @@ fn mask(case: &Case, start: usize) -> usize {
     bytes.iter().fold(0, |mask, &byte| mask << 8 | usize::from(byte))
 }
 
-/// The values at an edge, or below 16, that the engine's write accepts for an RW entry.
-fn accepted_values(case: &Case, entry: usize) -> Vec<i64> {
+/// Min and Max of an entry that has them.
+fn range(case: &Case, entry: &EntryInfo) -> Option<[i64; 2]> {
+    let at = |place: usize| case.rw[entry.start + place + mask_bytes(case.count)];
+    shape::range(entry.id).map(|places| places.map(|place| i64::from(at(place) as i8)))
+}
+
+/// The values at an edge, or below 16, that the engine's write accepts for an RW entry; of a range, those at its ends, about
+/// its middle and about 0.
+fn accepted_values(case: &Case, entry: usize, range: Option<[i64; 2]>) -> Vec<i64> {
     let (Case { count, rw, ro }, bank) = (*case, Bank::ones());
     let write = |value| engine::write(count, rw, ro, &mut bank.lent().to_vec(), 0, entry, 0, 1, value);
     let accepts = |&value: &i64| write(value).refusal == 0;
-    (0..16).chain(VALUES).filter(accepts).collect()
+    let values: Vec<i64> = match range {
+        Some([min, max]) => vec![min, min + 1, (min + max) / 2, max - 1, max, -1, 0, 1],
+        None => (0..16).chain(VALUES).collect(),
+    };
+    values.into_iter().filter(accepts).collect()
 }
 
 /// A value at an edge, or one that a field of some width may hold.

@@ -4,7 +4,7 @@ use super::aim::{chosen, Aim};
 use crate::calls::bank::Agreed;
 use crate::case::Case;
 use crate::engine;
-use crate::refusals::{only, Numbers, ACCEPTED, LANES};
+use crate::refusals::{only, Numbers, ACCEPTED, COPIED, LANES};
 use crate::report::Report;
 use crate::tally::Row;
 
@@ -19,6 +19,10 @@ struct Look<'a> {
     changed: Vec<usize>,
     lacking: Vec<usize>,
     bad: Vec<usize>,
+    /// The IDs of the entries with a changed field, or with one of the named lane that is refused with 14.
+    ids: Vec<u8>,
+    /// A changed field now holds a number below 0.
+    negative: bool,
 }
 
 impl Look<'_> {
@@ -44,6 +48,11 @@ impl Look<'_> {
         }
     }
 
+    /// A field of this ID changed, or none but such fields of the named lane are at fault.
+    fn is_by(&self, id: u8) -> bool {
+        self.ids.contains(&id) && (self.accepted() || self.ids.iter().all(|&other| other == id))
+    }
+
     fn app(&self, lane: usize) -> usize {
         self.agreed.before[engine::app_sel_at(self.set, lane)].into()
     }
@@ -61,7 +70,7 @@ const fn reached(name: &'static str, numbers: Numbers, test: fn(&Look) -> bool) 
     (Row::new(name, numbers), test)
 }
 
-static REACHED: [Reached; 18] = [
+static REACHED: [Reached; 34] = [
     reached("apply: lane 1", LANES, |look| look.names(1)),
     reached("apply: lane 2", LANES, |look| look.names(2)),
     reached("apply: lane 3", LANES, |look| look.names(3)),
@@ -78,6 +87,22 @@ static REACHED: [Reached; 18] = [
     reached("apply: 14 in lower lane", only(&[13]), |look| look.bad.first().is_some_and(|&lane| lane < look.agreed.at)),
     reached("apply: empty mask", ACCEPTED, |look| look.lanes == 0),
     reached("apply: no byte changed", ACCEPTED, |look| look.accepted() && look.lanes != 0 && look.changed.is_empty()),
+    reached("apply: 02h", ACCEPTED, |look| look.is_by(0x02)),
+    reached("apply: 03h", COPIED, |look| look.is_by(0x03)),
+    reached("apply: 04h", COPIED, |look| look.is_by(0x04)),
+    reached("apply: 05h", ACCEPTED, |look| look.is_by(0x05)),
+    reached("apply: 06h", ACCEPTED, |look| look.is_by(0x06)),
+    reached("apply: 07h", COPIED, |look| look.is_by(0x07)),
+    reached("apply: 08h", COPIED, |look| look.is_by(0x08)),
+    reached("apply: 09h", COPIED, |look| look.is_by(0x09)),
+    reached("apply: 0Ah", COPIED, |look| look.is_by(0x0A)),
+    reached("apply: 0Bh", ACCEPTED, |look| look.is_by(0x0B)),
+    reached("apply: 0Ch", ACCEPTED, |look| look.is_by(0x0C)),
+    reached("apply: 0Dh", COPIED, |look| look.is_by(0x0D)),
+    reached("apply: 0Eh", COPIED, |look| look.is_by(0x0E)),
+    reached("apply: 0Fh", ACCEPTED, |look| look.is_by(0x0F)),
+    reached("apply: 10h", ACCEPTED, |look| look.is_by(0x10)),
+    reached("apply: below 0", ACCEPTED, |look| look.negative),
     // A chosen lane's field is not copied, since its entry's mask lacks the AppSel.
     reached("apply: a field kept", ACCEPTED, |look| {
         let lacks = |lane| look.aim.targets.iter().any(|target| !target.has_app(look.app(lane)));
@@ -97,7 +122,7 @@ pub fn rows() -> impl Iterator<Item = &'static Row> {
 /// Counts an apply on a staged set.
 pub fn count(report: &mut Report, case: &Case, aim: &Aim, set: usize, lanes: u8, agreed: &Agreed) {
     let [changed, lacking, bad] = [(); 3].map(|()| Vec::new());
-    let mut look = Look { case, aim, agreed, set, lanes, changed, lacking, bad };
+    let mut look = Look { case, aim, agreed, set, lanes, changed, lacking, bad, ids: Vec::new(), negative: false };
     for lane in chosen(lanes) {
         let mut bank = agreed.before.clone();
         match engine::apply(case.count, case.rw, case.ro, &mut bank, set, 1 << (lane - 1)).refusal {
@@ -107,9 +132,43 @@ pub fn count(report: &mut Report, case: &Case, aim: &Aim, set: usize, lanes: u8,
             _ => {}
         }
     }
+    match agreed.refusal {
+        0 => (look.ids, look.negative) = copied(&look),
+        14 => look.ids = at_fault(&look),
+        _ => {}
+    }
     for (row, test) in &REACHED {
         if test(&look) {
             report.calls.count(row, agreed.refusal);
         }
     }
+}
+
+/// The IDs whose bytes in the active set an accepted apply changed, and whether one of the new numbers is below 0.
+fn copied(look: &Look) -> (Vec<u8>, bool) {
+    let Case { count, rw, ro } = *look.case;
+    let mut bank = look.agreed.before.clone();
+    engine::apply(count, rw, ro, &mut bank, look.set, look.lanes);
+    let (mut ids, mut negative) = (Vec::new(), false);
+    for target in &look.aim.targets {
+        let bytes = target.bytes.clone().map(|offset| engine::set_start(2) + offset);
+        for at in bytes.filter(|&at| bank[at] != look.agreed.before[at]) {
+            ids.push(target.id);
+            // Fields with Min and Max have 8 bits.
+            negative |= target.range.is_some() && (bank[at] as i8) < 0;
+        }
+    }
+    (ids, negative)
+}
+
+/// The IDs with a field in the lane that 14 names whose number write doesn't accept.
+fn at_fault(look: &Look) -> Vec<u8> {
+    let Case { count, rw, ro } = *look.case;
+    let (set, lane, bank) = (look.set, look.agreed.at, &look.agreed.before);
+    let is_fault = |entry, part| {
+        let number = engine::read(count, rw, ro, bank, set, entry, part, lane).number;
+        engine::write(count, rw, ro, &mut bank.clone(), set, entry, part, lane, number).refusal != 0
+    };
+    let copied = look.aim.targets.iter().filter(|target| target.has_app(look.app(lane)));
+    copied.filter(|target| (0..target.parts).any(|part| is_fault(target.entry, part))).map(|target| target.id).collect()
 }

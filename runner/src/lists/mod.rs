@@ -2,6 +2,7 @@
 
 mod aim;
 mod applies;
+mod numeric;
 pub mod whole;
 
 use second::Call::{Apply, ByteRead, ByteWrite, Publish, Write};
@@ -12,9 +13,9 @@ use crate::case::Case;
 use crate::engine;
 use crate::fixed;
 use crate::random::Random;
-use crate::refusals::{ACCEPTED, LANES, VALUE};
+use crate::refusals::{only, ACCEPTED, LANES, VALUE};
 use crate::report::Report;
-use crate::shape::TABLE;
+use crate::shape::{NUMERIC, TABLE};
 use crate::tally::Row;
 use crate::valid;
 use aim::Aim;
@@ -27,7 +28,7 @@ const LONGEST: usize = 200;
 const REFUSED: usize = 40;
 
 /// Values accepted and not, by the ID that they were for.
-static VALUES_BY_ID: [Row; 11] = [
+static VALUES_BY_ID: [Row; 17] = [
     Row::new("write: 02h", VALUE),
     Row::new("write: 03h", VALUE),
     Row::new("write: 04h", VALUE),
@@ -35,6 +36,12 @@ static VALUES_BY_ID: [Row; 11] = [
     Row::new("write: 06h", VALUE),
     Row::new("write: 07h", VALUE),
     Row::new("write: 08h", VALUE),
+    Row::new("write: 09h", VALUE),
+    Row::new("write: 0Ah", VALUE),
+    Row::new("write: 0Bh", VALUE),
+    Row::new("write: 0Ch", VALUE),
+    Row::new("write: 0Dh", VALUE),
+    Row::new("write: 0Eh", VALUE),
     Row::new("write: 0Fh", VALUE),
     Row::new("write: 10h", VALUE),
     Row::new("publish: 11h", VALUE),
@@ -57,10 +64,20 @@ static WEIGHTS_BY_STEP: [Row; 4] = [
     Row::new("weight: step 3", ACCEPTED),
 ];
 
+/// Weights of the other entries with a step.
+static WEIGHTS_OF_OTHERS: Row = Row::new("weight: 09h, 0Ah, 0Dh", only(&[10]));
+
+/// Lists on accepted maps with RW fields, by what is among them: none of 09h to 0Eh, one of them, 0Dh more than once.
+static LISTS_BY_MAP: [Row; 3] = [
+    Row { floor: LISTS / 8, ..Row::new("list: no 09h to 0Eh", ACCEPTED) },
+    Row { floor: LISTS / 8, ..Row::new("list: 09h to 0Eh", ACCEPTED) },
+    Row { floor: LISTS / 40, ..Row::new("list: several 0Dh", ACCEPTED) },
+];
+
 /// The rows that lists are counted in, beside those of the calls.
 pub fn rows() -> Vec<&'static Row> {
-    let rows = VALUES_BY_ID.iter().chain(&BYTES_BY_KIND).chain(&WEIGHTS_BY_STEP);
-    rows.chain(applies::rows()).collect()
+    let rows = VALUES_BY_ID.iter().chain(&BYTES_BY_KIND).chain(&WEIGHTS_BY_STEP).chain([&WEIGHTS_OF_OTHERS]);
+    rows.chain(&LISTS_BY_MAP).chain(numeric::rows()).chain(applies::rows()).collect()
 }
 
 pub fn compare(report: &mut Report) {
@@ -87,6 +104,9 @@ fn compare_list(report: &mut Report, case: &Case, random: &Random) {
         let Some(agreed) = bank::compare(report, case, &mut bank, call) else {
             return;
         };
+        if let Call::Listed(listed) = call {
+            numeric::count(report, case, &aim, listed, &agreed);
+        }
         match (call, agreed.refusal) {
             (Call::Listed(Write { entry, .. } | Publish { entry, .. }), refusal) if VALUE.has(refusal) => {
                 let row = TABLE.concat().iter().position(|&id| id == aim.ids[entry]);
@@ -102,10 +122,20 @@ fn compare_list(report: &mut Report, case: &Case, random: &Random) {
                 applies::count(report, case, &aim, set, lanes, &agreed);
             }
             (Call::Weight { entry, .. }, 0) => report.calls.count(&WEIGHTS_BY_STEP[aim.step(case, entry)], 0),
+            (Call::Weight { entry, lane: 1..=8 }, refusal) if accepted && aim.range(entry).is_some() => {
+                report.calls.count(&WEIGHTS_OF_OTHERS, refusal);
+            }
             _ => {}
         }
     }
     bank::compare_end(report, case, &bank, &aim.fields.concat());
+    if !aim.targets.is_empty() {
+        let has_numeric = aim.ids.iter().any(|id| NUMERIC.contains(id));
+        report.calls.count(&LISTS_BY_MAP[usize::from(has_numeric)], 0);
+        if aim.ids.iter().filter(|&&id| id == 0x0D).count() > 1 {
+            report.calls.count(&LISTS_BY_MAP[2], 0);
+        }
+    }
 }
 
 /// 1 if the byte at an offset of a set is a gap, 0 if it holds fields.

@@ -1,7 +1,8 @@
-//! Apply in one pass over the strings: lanes as masks, accepted codes as a 16-bit mask for each entry, and the active
-//! set merged with a mask of the bits that are copied.
+//! Apply in one pass over the strings: lanes as masks, accepted codes as a 16-bit mask for each entry, Min and Max against
+//! 8 bytes at once, and the active set merged with a mask of the bits that are copied.
 
 use super::layout::{app_sels_start, set_start, ACTIVE, BANK_SIZE, SET_SIZE};
+use super::rows::SIGNED;
 use super::walk::{walk, Entry, Refusal, Visit};
 
 /// All bits of the fields that a mask of lanes chooses in a part, by the width's power of 2 and the mask.
@@ -85,7 +86,11 @@ impl Visit for Plan<'_> {
         let (staged, copied) = (u64::from_le_bytes(staged), copied_bits(&entry, lanes));
         *mask = copied.to_le_bytes();
         if lanes != 0 && is_refused(&entry, staged, copied) {
-            self.lowest = self.lowest.min(lowest_refused(entry.codes(), entry.row.shift, staged, copied));
+            let lowest = match entry.row.shift {
+                3 => (outside(entry.range(), staged) & copied).trailing_zeros() as usize / 8,
+                shift => lowest_refused(entry.codes(), shift, staged, copied),
+            };
+            self.lowest = self.lowest.min(lowest);
         }
     }
 }
@@ -99,6 +104,24 @@ fn copied_bits(entry: &Entry, lanes: u8) -> u64 {
     } else {
         part
     }
+}
+
+/// The high bit of each byte.
+const HIGH: u64 = 0x8080_8080_8080_8080;
+
+/// The high bit of each byte that is less than the other's.
+#[inline(always)]
+fn less(bytes: u64, others: u64) -> u64 {
+    // No byte borrows from the next.
+    let low_bits = (bytes | HIGH) - (others & !HIGH);
+    (!bytes & others | !(bytes ^ others) & !low_bits) & HIGH
+}
+
+/// The high bit of each byte that is a number below Min or above Max. With their high bits turned, numbers are ordered as bytes.
+#[inline(always)]
+fn outside((min, max): (i8, i8), staged: u64) -> u64 {
+    let [min, max] = [min, max].map(|end| u64::from_le_bytes([end as u8; 8]) ^ HIGH);
+    less(staged ^ HIGH, min) | less(max, staged ^ HIGH)
 }
 
 /// Whether one of the 8 lowest values of 4 bits is among the refused ones.
@@ -124,6 +147,7 @@ fn is_refused(entry: &Entry, staged: u64, copied: u64) -> bool {
             let refused = 0x0001_0001_0001_0001 * u64::from(!codes);
             has_one(refused, shown) || entry.row.parts == 2 && has_one(refused, shown >> 32)
         }
+        3 => entry.row.traits & SIGNED != 0 && outside(entry.range(), staged) & copied != 0,
         _ => false,
     }
 }

@@ -101,7 +101,8 @@ impl Entry<'_> {
         if self.row.shift < 3 {
             (0..16).contains(&value) && self.codes() >> value & 1 == 1
         } else if self.row.traits & SIGNED != 0 {
-            (-128..128).contains(&value)
+            let (min, max) = self.range();
+            (min.into()..=max.into()).contains(&value)
         } else {
             (0..256).contains(&value)
         }
@@ -245,7 +246,7 @@ calls! {
 
     fn weight(count: usize, rw: &[u8], ro: &[u8], bank: &[u8], entry: usize, lane: usize) -> Answered {
         let e = passed!(find_entry(count, rw, ro, bank.len(), entry));
-        refuse_if!(e.row.traits & HAS_STEP == 0 || !e.has_field(0, lane), 10);
+        refuse_if!(!e.in_ro || e.row.traits & HAS_STEP == 0 || !e.has_field(0, lane), 10);
         let thousandths = [10, 20, 25, 40][usize::from(e.step() & 3)];
         Answered { number: e.number_at(bank, ACTIVE, 0, lane) * thousandths, ..YES }
     }

@@ -1,7 +1,7 @@
 //! The checks 9, 8 and 1 to 7 in one pass over both strings, which shows each entry to the call as it passes.
 
 use super::layout::{BANK_SIZE, SET_SIZE};
-use super::rows::{Row, HAS_CODES, HAS_FLAGS, HAS_STEP, HOST_FIRST, IN_RO, IN_RW, ROWS};
+use super::rows::{Row, HAS_CODES, HAS_FLAGS, HAS_STEP, HOST_FIRST, IN_RO, IN_RW, MAX_FIRST, ROWS};
 
 /// A refusal's number, and the entry or lane that it names, or 0.
 pub type Refusal = (usize, usize);
@@ -41,6 +41,17 @@ impl Entry<'_> {
             return self.row.codes;
         }
         self.row.codes & self.pair(usize::from(self.row.least) + self.a - 2)
+    }
+
+    /// The least and the largest number of a signed field. In RO they are those of 8 bits.
+    #[inline(always)]
+    pub fn range(&self) -> (i8, i8) {
+        if self.in_ro {
+            return (i8::MIN, i8::MAX);
+        }
+        let pair = self.pair(5 + self.a);
+        let [min, max] = if self.row.traits & MAX_FIRST == 0 { pair } else { pair.swap_bytes() }.to_be_bytes();
+        (min as i8, max as i8)
     }
 
     /// The step of a 12h entry.
@@ -98,7 +109,8 @@ impl Walk {
             if memory < row.needed {
                 return Err(4);
             }
-            if row.traits & HAS_STEP != 0 && bytes.get(5 + A).is_none_or(|&step| step > 3) {
+            let (step_at, first) = if side == IN_RO { (5 + A, 0) } else { (7 + A, row.first_step) };
+            if row.traits & HAS_STEP != 0 && bytes.get(step_at).is_none_or(|&step| step.wrapping_sub(first) > 3) {
                 return Err(5);
             }
             let media = row.traits & HAS_FLAGS != 0 && bytes.get(3 + A).is_some_and(|flags| flags & 1 != 0);

@@ -1,13 +1,14 @@
 //! The exact limits of document 01 at which a map must have stood, on both sides.
 
-use super::look::Look;
-use crate::strings::{LARGEST, LONGEST};
+use super::look::{Look, Seen};
+use crate::shape::NUMERIC;
+use crate::strings::{LARGEST, LONGEST, RW};
 
 /// A name, and whether a load stood there.
 type Limit = (&'static str, fn(&Look) -> bool);
 
 #[rustfmt::skip]
-pub const LIMITS: [Limit; 39] = [
+pub const LIMITS: [Limit; 68] = [
     ("count 1 accepted", |l| l.accepted() && l.case.count == 1),
     ("count 8 accepted", |l| l.accepted() && l.case.count == 8),
     ("count 9 accepted", |l| l.accepted() && l.case.count == 9),
@@ -40,21 +41,79 @@ pub const LIMITS: [Limit; 39] = [
     ("MemoryLength above the need accepted", |l| l.with(|e| l.needed(e) > 0 && l.memory(e) > Some(l.needed(e)))),
     ("4: MemoryLength one below the need", |l| l.refused(4, |e| l.memory(e) == Some(l.needed(e) - 1))),
     ("4: MemoryLength 0", |l| l.refused(4, |e| l.memory(e) == Some(0))),
-    ("5: step 4", |l| l.refused(5, |e| l.step(e) == Some(4))),
-    ("step 3, index above 3 accepted", |l| l.with(|e| l.step(e) == Some(3) && e.rest[4 + l.a] > 3)),
-    ("6: after a media-side 02h to 08h", |l| l.refused(6, |_| l.first_media().is_some_and(|e| e.id() <= 0x08))),
-    ("6: after a media-side 0Fh or 10h", |l| l.refused(6, |_| l.first_media().is_some_and(|e| e.id() >= 0x0F))),
+    ("5: 12h, step 4", |l| reserved(l, 0x12, 4)),
+    ("5: 12h, step 255", |l| reserved(l, 0x12, 255)),
+    ("5: 0Dh, step 4", |l| reserved(l, 0x0D, 4)),
+    ("5: 0Dh, step 255", |l| reserved(l, 0x0D, 255)),
+    ("5: 09h, step 0", |l| reserved(l, 0x09, 0)),
+    ("5: 09h, step 5", |l| reserved(l, 0x09, 5)),
+    ("5: 09h, step 255", |l| reserved(l, 0x09, 255)),
+    ("5: 0Ah, step 0", |l| reserved(l, 0x0A, 0)),
+    ("5: 0Ah, step 5", |l| reserved(l, 0x0A, 5)),
+    ("5: 0Ah, step 255", |l| reserved(l, 0x0A, 255)),
+    ("12h, step 0 accepted", |l| l.with(|e| steps(l, e, 0x12, 0))),
+    ("12h, step 3, index above 3 accepted", |l| l.with(|e| steps(l, e, 0x12, 3) && l.index(e) > 3)),
+    ("0Dh, step 0 accepted", |l| l.with(|e| steps(l, e, 0x0D, 0))),
+    ("0Dh, step 3, index above 3 accepted", |l| l.with(|e| steps(l, e, 0x0D, 3) && l.index(e) > 3)),
+    ("09h, step 1 accepted", |l| l.with(|e| steps(l, e, 0x09, 1))),
+    ("09h, step 4, target above 1 accepted", |l| l.with(|e| steps(l, e, 0x09, 4) && l.index(e) > 1)),
+    ("0Ah, step 1 accepted", |l| l.with(|e| steps(l, e, 0x0A, 1))),
+    ("0Ah, step 4, target above 1 accepted", |l| l.with(|e| steps(l, e, 0x0A, 4) && l.index(e) > 1)),
+    ("Min above Max accepted", |l| l.with(|e| l.range(e).is_some_and(|[min, max]| min > max))),
+    ("Min equal to Max accepted", |l| l.with(|e| l.range(e).is_some_and(|[min, max]| min == max))),
+    ("0Dh with two indexes accepted", |l| l.with(|e| other_cursor(l, e, |one, other| one != other))),
+    ("0Dh twice with one index accepted", |l| l.with(|e| other_cursor(l, e, |one, other| one == other))),
+    ("6: after a media-side 02h to 08h", |l| after_media(l, 0x02, 0x08)),
+    ("6: after a media-side 09h", |l| after_media(l, 0x09, 0x09)),
+    ("6: after a media-side 0Ah", |l| after_media(l, 0x0A, 0x0A)),
+    ("6: after a media-side 0Bh", |l| after_media(l, 0x0B, 0x0B)),
+    ("6: after a media-side 0Ch", |l| after_media(l, 0x0C, 0x0C)),
+    ("6: after a media-side 0Dh", |l| after_media(l, 0x0D, 0x0D)),
+    ("6: after a media-side 0Eh", |l| after_media(l, 0x0E, 0x0E)),
+    ("6: after a media-side 0Fh or 10h", |l| after_media(l, 0x0F, 0x10)),
+    ("host-side 09h to 0Eh after media side", |l| l.accepted() && numeric_after_media(l)),
     ("host side after an odd opaque entry", |l| l.accepted() && after_odd_opaque(l)),
     ("media side after media side", |l| l.accepted() && l.passed().iter().filter(|e| e.id() <= 0x08 && media(l, e)).count() > 1),
     ("an ID recurs, accepted", |l| l.accepted() && recurs(l)),
+    ("all of 09h to 0Eh accepted", |l| l.accepted() && NUMERIC.into_iter().all(|id| l.passed().iter().any(|e| e.id() == id))),
+    ("RW fields, none of 09h to 0Eh, accepted", |l| l.with(|e| e.string == RW && l.needed(e) > 0) && !l.with(numeric)),
 ];
 
 fn good_count(l: &Look) -> bool {
     (1..=15).contains(&l.case.count)
 }
 
-fn media(l: &Look, entry: &super::look::Seen) -> bool {
+fn media(l: &Look, entry: &Seen) -> bool {
     l.needed(entry) > 0 && l.odd(entry)
+}
+
+fn numeric(entry: &Seen) -> bool {
+    NUMERIC.contains(&entry.id())
+}
+
+fn steps(l: &Look, entry: &Seen, id: u8, step: u8) -> bool {
+    entry.id() == id && l.step(entry) == Some(step)
+}
+
+/// Refused with 5 for this step of an ID.
+fn reserved(l: &Look, id: u8, step: u8) -> bool {
+    l.refused(5, |entry| steps(l, entry, id, step))
+}
+
+/// Refused with 6 after a first media-side entry of these IDs.
+fn after_media(l: &Look, low: u8, high: u8) -> bool {
+    l.refused(6, |_| l.first_media().is_some_and(|entry| (low..=high).contains(&entry.id())))
+}
+
+/// A host-side entry of note 1 directly after a media-side entry.
+fn numeric_after_media(l: &Look) -> bool {
+    l.passed().windows(2).any(|pair| media(l, &pair[0]) && numeric(&pair[1]) && !l.odd(&pair[1]))
+}
+
+/// The entry is a 0Dh, and the test holds for its index and another 0Dh's.
+fn other_cursor(l: &Look, entry: &Seen, test: fn(u8, u8) -> bool) -> bool {
+    let other = |other: &&Seen| other.id() == 0x0D && other.rest.len() != entry.rest.len();
+    entry.id() == 0x0D && l.passed().iter().filter(other).any(|other| test(l.index(entry), l.index(other)))
 }
 
 /// A host-side 02h to 08h directly after an entry without fields whose byte after MemoryLength is its own and odd.

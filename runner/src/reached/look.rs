@@ -3,7 +3,7 @@
 use crate::case::Case;
 use crate::engine::Loaded;
 use crate::refusals::{named, Named};
-use crate::shape::{mask_bytes, shape, TABLE};
+use crate::shape::{self, mask_bytes, shape, TABLE};
 use crate::strings::{LARGEST, RO, RW};
 
 /// An entry: its string, and the bytes from its ID to the string's end.
@@ -100,9 +100,20 @@ impl<'a> Look<'a> {
         entry.rest.get(3 + self.a).is_some_and(|flags| flags & 1 == 1)
     }
 
-    /// The step byte of a 12h entry, if it is there.
+    /// The step byte of an entry that has one, if it is there.
     pub fn step(&self, entry: &Seen) -> Option<u8> {
-        entry.rest.get(5 + self.a).filter(|_| entry.id() == 0x12).copied()
+        shape::step(entry.id()).and_then(|(at, _)| entry.rest.get(at + self.a).copied())
+    }
+
+    /// Min and Max of an entry that has them, if they are there.
+    pub fn range(&self, entry: &Seen) -> Option<[i8; 2]> {
+        let [min, max] = shape::range(entry.id())?.map(|at| entry.rest.get(at + self.a));
+        Some([*min? as i8, *max? as i8])
+    }
+
+    /// The byte after PropertyFlags: of an entry with a step, the index or EqualizerTarget.
+    pub fn index(&self, entry: &Seen) -> u8 {
+        entry.rest[4 + self.a]
     }
 
     /// The sum of the MemoryLengths that were passed, with this entry's.
@@ -128,7 +139,10 @@ impl<'a> Look<'a> {
                 _ => false,
             },
             4 => self.memory(entry).is_some_and(|memory| memory < self.needed(entry)),
-            5 => self.step(entry).is_some_and(|step| step > 3),
+            5 => match (shape::step(entry.id()), self.step(entry)) {
+                (Some((_, first)), Some(step)) => step.wrapping_sub(first) > 3,
+                _ => false,
+            },
             6 => (0x02..=0x08).contains(&entry.id()) && !self.odd(entry) && self.first_media().is_some(),
             7 => self.sum_with(entry) > LARGEST,
             _ => unreachable!("{number} is no check of an entry"),

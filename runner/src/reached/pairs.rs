@@ -4,7 +4,7 @@ use super::look::{Look, Seen};
 use crate::refusals::checks_after;
 use crate::tally::{Row, Tally};
 
-/// The check that was answered, and its row. 5 and 6 never meet: 12h isn't among 02h to 08h.
+/// The check that was answered, and its row. 5 and 6 never meet: none of 02h to 08h has a step.
 static ANSWERED: [(usize, Row); 6] = [
     (1, Row::new("1 answered", checks_after(1))),
     (2, Row::new("2 answered", checks_after(2))),

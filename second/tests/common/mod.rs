@@ -126,9 +126,13 @@ impl Random {
     }
 }
 
-/// An entry that is mostly good for its string, by the paper's table.
+/// An entry that is mostly good for its string, by the paper's table with the
+/// lines of note 1.
 pub fn random_entry(random: &mut Random, count: usize, in_ro: bool) -> Vec<u8> {
-    let rw_ids = [0x02, 0x03, 0x04, 0x05, 0x06, 0x07, 0x08, 0x0F, 0x10, 0x00, 0x01, 0x0A, 0x77];
+    let rw_ids = [
+        0x02, 0x03, 0x04, 0x05, 0x06, 0x07, 0x08, 0x09, 0x0A, 0x0B, 0x0C, 0x0D, 0x0E, 0x0F, 0x10,
+        0x00, 0x01, 0x77,
+    ];
     let ro_ids = [0x11, 0x12, 0x11, 0x12, 0x00, 0x13, 0xFF];
     let id: u8 = if random.chance(60) {
         random.byte()
@@ -138,16 +142,17 @@ pub fn random_entry(random: &mut Random, count: usize, in_ro: bool) -> Vec<u8> {
         random.pick(&rw_ids)
     };
     let (needed, extras): (u8, usize) = match id {
-        0x02 | 0x05 | 0x06 => (1, 0),
+        0x02 | 0x05 | 0x06 | 0x0B | 0x0C => (1, 0),
         0x03 => (2, 0),
-        0x04 | 0x08 => (4, 2),
+        0x04 | 0x08 | 0x0E => (4, 2),
         0x07 => (8, 3),
+        0x09 | 0x0A | 0x0D => (8, 4),
         0x0F | 0x10 => (8, 0),
         0x11 => (16, 0),
         0x12 => (8, 2),
         _ => (0, 0),
     };
-    let table = matches!(id, 0x02..=0x08 | 0x0F..=0x12);
+    let table = matches!(id, 0x02..=0x12);
     let memory = match random.below(12) {
         0 => random.byte(),
         1..=3 => needed + random.below(4) as u8,
@@ -159,11 +164,24 @@ pub fn random_entry(random: &mut Random, count: usize, in_ro: bool) -> Vec<u8> {
     bytes.push(memory);
     if table {
         // Mostly host side first, as 6 asks.
-        let side = if id >= 0x0F || random.chance(15) { random.byte() & 1 } else { 0 };
+        let one_in = match id {
+            0x0F.. => 1,
+            0x09.. => 6,
+            _ => 15,
+        };
+        let side = if random.chance(one_in) { random.byte() & 1 } else { 0 };
         bytes.push(random.byte() & 0xFE | side);
         bytes.extend((0..extras).map(|_| random.byte() | random.byte()));
-        if id == 0x12 && !random.chance(30) {
-            *bytes.last_mut().unwrap() &= 3;
+        if matches!(id, 0x09 | 0x0A | 0x0D) && !random.chance(8) {
+            // Mostly a range with 0 in it: Min, then Max; in 0Dh the other way.
+            let at = bytes.len() - 3;
+            let range = [0x80 | random.byte(), 0x7F & random.byte()];
+            bytes[at] = range[usize::from(id == 0x0D)];
+            bytes[at + 1] = range[usize::from(id != 0x0D)];
+        }
+        if matches!(id, 0x09 | 0x0A | 0x0D | 0x12) && !random.chance(30) {
+            let lowest = u8::from(id < 0x0D);
+            *bytes.last_mut().unwrap() = lowest + random.below(4) as u8;
         }
     }
     bytes.extend((0..random.pick(&[0, 0, 0, 1, 3])).map(|_| 0xEE));

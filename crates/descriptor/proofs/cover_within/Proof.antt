@@ -103,8 +103,8 @@ named-at-requires-2 c κs =
     let h = c .before .before in
     (record { classes-are = refl; shapes-are = refl }, (h .before .before .before .before .before .before .mask-bytes .ensures .2, in-last h .0))
 
-add-t35 : tie.Need-add-t35
-add-t35 c = omega (arith, in-last (c .before .before .before .before) .2)
+add-t36 : tie.Need-add-t36
+add-t36 c = omega (arith, in-last (c .before .before .before .before) .2)
 
 returns-2 : tie.Need-returns-2
 unfolding namedOf
@@ -137,7 +137,7 @@ cover-within-spec =
     returns
     look-requires-2
     named-at-requires-2
-    add-t35
+    add-t36
     returns-2
     returns-3
     returns-4)

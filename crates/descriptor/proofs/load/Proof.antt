@@ -147,8 +147,8 @@ returns-3 c =
     rw q (sym (load-strings (g .count) (now (g .rw)) (now (g .ro)) (fine (u .before .before .before .before .before .before .before .before))
     ∙ strings-ro-refused (g .count) (now (g .rw)) (now (g .ro)) _ (middle u) _ (second-walk k2 ∙ t .enum-told2 .given .1)))
 
-sub-t31 : tie.Need-sub-t31
-sub-t31 c =
+sub-t32 : tie.Need-sub-t32
+sub-t32 c =
     let e = c .before .before in
     let u = e .before .before .before .before .before .before .before in
     omega (arith, walk-counts _ _ _ 0 (intoRO (u .before .first .given .0 .0)) _ (ended-at u .sum) (last e) .0)
@@ -179,5 +179,5 @@ load-spec =
     enum-told-2
     refused-requires-2
     returns-3
-    sub-t31
+    sub-t32
     returns-4)

@@ -34,7 +34,6 @@ pub record Passed (ro : Bool) (a : ℕ) (s : List ℕ) (at : ℕ) (st : State) (
   pub long : 3 + a ≤ e .length
   pub side : mayStand (rowOf (e .id) .side) ro ≡ true
   pub good : GoodEntry e
-  pub step : e .step ≤ 3
   pub sum : st .sum + e .memory ≤ 256
 
 same-entry : (x y : Entry) → decoded x ≡ decoded y → y ≡ x
@@ -60,7 +59,6 @@ decode-passed ro a s at st e h =
       long = omega (arith, ltb-false, row-least (x .id));
       side = not-false _ (h3 .0);
       good = record { width = row-width x; room = omega (arith, ltb-false, row-needed x) };
-      step = omega (arith, ltb-false);
       sum = omega (arith, ltb-false);
     })
 

@@ -114,7 +114,7 @@ module _ (m : Map) (b : Bank) (s lanes : ℕ) where
     where
       says : (e p : ℕ)
           → T (bankCopies m b s lanes e i && not (accepts (entry m e) (numberIn m b s e p i)))
-          ↔ (Copied m b s lanes e i × ¬ (Accepts (entry m e .id) (entry m e .codes) (numberIn m b s e p i)))
+          ↔ (Copied m b s lanes e i × ¬ (Accepts (entry m e) (numberIn m b s e p i)))
       says e p = and-says (bankCopies m b s lanes e i) _ (copies-says e i) (not-says (accepts (entry m e) (numberIn m b s e p i)) (accepts-says (entry m e) _))
 
       back : HoldsBad m b s lanes i → T (bankHoldsBad m b s lanes i)

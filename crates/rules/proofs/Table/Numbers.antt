@@ -6,6 +6,7 @@ use native.Mathlib.Omega.{arith}
 use lib.IntN.{ℤ, pos, negsuc}
 use lib.Dec.{T, ltb, ltb→lt, lt→ltb, nltb→le, leb, leb→le}
 use borrow.Author.Tests.{lt-ltb, le-ltb}
+use lib.Pow.{pow-pos}
 use lib.Signed.{leZ}
 use Rattle.rules.specs.Accept.{toBits, fromBits}
 use Rattle.rules.proofs.Basics.Tests.{by-test}
@@ -46,13 +47,18 @@ module _ (w : ℕ) (hw : 0 < w) where
   to-from true n h =
       by-test (λ z. toBits w z ≡ n) (ltb n (2 ^ (w - 1))) (pos n) (negsuc (2 ^ w - suc n)) (λ _. refl) (λ _. omega arith)
 
+  -- two's complement takes any number for one of w bits
+  pub signed-fits : (n : ℕ) → T (fits true w (fromBits true w n))
+  unfolding fits fromBits
+  signed-fits n =
+      by-test (λ z. T (fits true w z)) (ltb n (2 ^ (w - 1))) (pos n) (negsuc (2 ^ w - suc n))
+      (λ l. l)
+      (λ l. lt→ltb (2 ^ w - suc n) (2 ^ (w - 1)) (omega (arith, half w hw, pow-pos (w - 1), nltb→le n (2 ^ (w - 1)) l)))
+
   pub from-fits : (g : Bool) (n : ℕ) → n < 2 ^ w → T (fits g w (fromBits g w n))
   unfolding fits fromBits
   from-fits false n h = lt→ltb _ _ h
-  from-fits true n h =
-      by-test (λ z. T (fits true w z)) (ltb n (2 ^ (w - 1))) (pos n) (negsuc (2 ^ w - suc n))
-      (λ l. l)
-      (λ l. lt→ltb (2 ^ w - suc n) (2 ^ (w - 1)) (omega (arith, half w hw, nltb→le n (2 ^ (w - 1)) l)))
+  from-fits true n h = signed-fits n
 
 down : (a b n : ℕ) → T (leb a b) → T (ltb b n) → T (ltb a n)
 down a b n h l = let p : a ≤ b = leb→le a b h in let q : b < n = ltb→lt b n l in lt→ltb a n (omega arith)

@@ -10,13 +10,13 @@ use lib.Signed.{leZ}
 use lib.Dec.{T, leb, eqb, leb→le, eqb→eq}
 use lib.ListN.{getD}
 use Rattle.rules.specs.Words.{Entry}
-use Rattle.rules.specs.Parameter.{Range, Row, rows, space, both, rowOf}
+use Rattle.rules.specs.Parameter.{Range, Values, numbers, ifInMask, minToMax, Row, rows, space, both, rowOf}
 use Rattle.rules.specs.Place.{partsOf, widthOf, signedOf, Width}
-use Rattle.rules.specs.Accept.{within, accepts}
-use Rattle.rules.proofs.Basics.Tests.{and₂, and₄, or-cases}
-use Rattle.rules.proofs.Table.Numbers.{fits, fits-between}
+use Rattle.rules.specs.Accept.{within, signedByte, takes, accepts}
+use Rattle.rules.proofs.Basics.Tests.{and₂, and₄, or-cases, is-true}
+use Rattle.rules.proofs.Table.Numbers.{fits, signed-fits, fits-between}
 
-abbrev all {ℓ} : {A : Type ℓ} → (A → Bool) → List A → Bool
+abbrev pub all {ℓ} : {A : Type ℓ} → (A → Bool) → List A → Bool
 all p [] = true
 all p (x ∷ xs) = p x && all p xs
 
@@ -29,21 +29,26 @@ looked-up p (x ∷ xs) y t u (suc k) = looked-up p xs y (and₂ (p x) (all p xs)
 abbrev rangeFits : Row → Range → Bool
 rangeFits r x = fits (r .signed) (r .width) (x .low) && fits (r .signed) (r .width) (x .high)
 
--- every row: a least Length of 3 to 7, as many bytes needed as the parts' lanes fill, a width that divides 8 where there
+abbrev valuesFit : Row → Values → Bool
+valuesFit r (numbers l) = all (rangeFits r) l
+valuesFit r (ifInMask l) = all (rangeFits r) l
+valuesFit r minToMax = r .signed && eqb (r .width) 8
+
+-- every row: a least Length of 3 to 8, as many bytes needed as the parts' lanes fill, a width that divides 8 where there
 -- is a field, and accepted values that fit the width
 abbrev fine : Row → Bool
 fine r =
-    (leb 3 (r .least) && leb (r .least) 7)
+    (leb 3 (r .least) && leb (r .least) 8)
     && (eqb (r .needed) (r .parts * r .width)
     && ((eqb (r .parts) 0 || eqb (8 / r .width * r .width) 8)
-    && all (rangeFits r) (r .values)))
+    && valuesFit r (r .values)))
 
 record Fine (r : Row) : Type 0 where
   least : 3 ≤ r .least
-  most : r .least ≤ 7
+  most : r .least ≤ 8
   needs : r .needed ≡ r .parts * r .width
   wide : 0 < r .parts → Width (r .width)
-  range : T (all (rangeFits r) (r .values))
+  range : T (valuesFit r (r .values))
 
 row-fine : (id : ℕ) → T (fine (rowOf id))
 unfolding rowOf fits
@@ -52,8 +57,8 @@ row-fine id = looked-up fine rows (space both) tt tt id
 is-fine : (id : ℕ) → Fine (rowOf id)
 is-fine id =
     let r : Row = rowOf id in
-    let (t₁, t₂, t₃, t₄) = and₄ (leb 3 (r .least) && leb (r .least) 7) (eqb (r .needed) (r .parts * r .width)) (eqb (r .parts) 0 || eqb (8 / r .width * r .width) 8) (all (rangeFits r) (r .values)) (row-fine id) in
-    let (u₁, u₂) = and₂ (leb 3 (r .least)) (leb (r .least) 7) t₁ in
+    let (t₁, t₂, t₃, t₄) = and₄ (leb 3 (r .least) && leb (r .least) 8) (eqb (r .needed) (r .parts * r .width)) (eqb (r .parts) 0 || eqb (8 / r .width * r .width) 8) (valuesFit r (r .values)) (row-fine id) in
+    let (u₁, u₂) = and₂ (leb 3 (r .least)) (leb (r .least) 8) t₁ in
     record { least = leb→le _ _ u₁; most = leb→le _ _ u₂; needs = eqb→eq _ _ t₂; wide = λ p. wide p (or-cases (eqb (r .parts) 0) _ t₃); range = t₄ }
   where
     wide : 0 < rowOf id .parts → T (eqb (rowOf id .parts) 0) ⊎ T (eqb (8 / rowOf id .width * rowOf id .width) 8) → Width (rowOf id .width)
@@ -84,6 +89,16 @@ within-fits r (x ∷ l) a v h = go (or-cases (leZ (x .low) v && leZ v (x .high))
         fits-between (r .signed) (r .width) (x .low) v (x .high) p q s t
     go (inr y) k = k y
 
+takes-fits : (r : Row) (x : Values) (e : Entry) (v : ℤ) → T (valuesFit r x) → T (takes x e v) → T (fits (r .signed) (r .width) v)
+unfolding takes
+takes-fits r (numbers l) e v a h = within-fits r l a v h
+takes-fits r (ifInMask l) e v a h = within-fits r l a v (and₂ (within l v) _ h .0)
+takes-fits r minToMax e v a h =
+    let (s, w) = and₂ (r .signed) (eqb (r .width) 8) a in
+    let (p, q) = and₂ (leZ (signedByte (e .min)) v) (leZ v (signedByte (e .max))) h in
+    rw (is-true (r .signed) s, eqb→eq (r .width) 8 w)
+    (fits-between true 8 (signedByte (e .min)) v (signedByte (e .max)) (signed-fits 8 (omega arith) (e .min)) (signed-fits 8 (omega arith) (e .max)) p q)
+
 pub accepts-fits : (e : Entry) (v : ℤ) → T (accepts e v) → T (fits (signedOf e) (widthOf e) v)
 unfolding accepts signedOf widthOf
-accepts-fits e v h = within-fits (rowOf (e .id)) (rowOf (e .id) .values) (is-fine (e .id) .range) v (and₂ (within (rowOf (e .id) .values) v) _ h .0)
+accepts-fits e v h = takes-fits (rowOf (e .id)) (rowOf (e .id) .values) e v (is-fine (e .id) .range) h

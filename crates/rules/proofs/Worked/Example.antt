@@ -8,10 +8,10 @@ use lib.ListN.{replicate, length-replicate}
 use Rattle.rules.specs.Words.{plain, atLane, Call, select, write, read, byteWrite, byteRead, publish, apply, Answer, saysYes, number, refused}
 use Rattle.rules.specs.Numbers.{sum, any, lowest}
 use Rattle.rules.specs.Parameter.{rowOf}
-use Rattle.rules.specs.Descriptor.{maskBytes, highFirst, codesOf, stepOf, refuse, lengthChecks, contentChecks, decodeAt}
+use Rattle.rules.specs.Descriptor.{maskBytes, highFirst, codesOf, byteOf, refuse, lengthChecks, contentChecks, decodeAt}
 use Rattle.rules.specs.Load.{foldBy, foldOf, walkOf, entriesFrom, stringsOf, loadOf, rwEntries, roEntries, entriesOf, total, mapOf}
 use Rattle.rules.specs.Place.{partsOf, widthOf, signedOf, heldBy, lengthOf, firstOwner, ownerOf}
-use Rattle.rules.specs.Accept.{within, inMask, inCodes, accepts, toBits, fromBits}
+use Rattle.rules.specs.Accept.{within, inMask, takes, accepts, toBits, fromBits}
 use Rattle.rules.specs.Refuse.{check9, check8, check1to7, exists, misdirected, unaccepted, judge, atLowest, bankOrder, orderOf}
 use Rattle.rules.specs.Layout.{bankSize, hasBytes, setStart, appSelStart, appSelAt}
 use Rattle.rules.specs.Bank.{Bank, getField, putField, numberIn, withNumber, fieldBits, bankLacksApp, bankCopies, bankHoldsBad, bankPlan, loop, copyField, applyBank, bankDoes, bankCall, freshBank, freshCall, bankMakes}
@@ -21,11 +21,16 @@ use Rattle.rules.specs.Demands.{Accepted, bankRun, tableRun, ListAgrees}
 use Rattle.rules.proofs.Lists.Lists.{lists-agree}
 
 -- 02h at 0 for AppSel 1 and 2; opaque 13h at 1 and 2, with a last byte that is not read as flags; 04h at 3 with codes 0 to 3
--- for AppSel 1, and a byte of surplus at 7
+-- for AppSel 1, and a byte of surplus at 7; 0Dh at 8 for AppSel 2, index −1, Max 0, Min −30, step 0
 abbrev rwString : List ℕ
-rwString = 0x02 ∷ 5 ∷ 3 ∷ 1 ∷ 0 ∷ 0x13 ∷ 5 ∷ 0 ∷ 2 ∷ 1 ∷ 0x04 ∷ 7 ∷ 1 ∷ 5 ∷ 0 ∷ 0 ∷ 0x0F ∷ []
+rwString =
+    0x02 ∷ 5 ∷ 3 ∷ 1 ∷ 0
+    ∷ 0x13 ∷ 5 ∷ 0 ∷ 2 ∷ 1
+    ∷ 0x04 ∷ 7 ∷ 1 ∷ 5 ∷ 0 ∷ 0 ∷ 0x0F
+    ∷ 0x0D ∷ 9 ∷ 2 ∷ 8 ∷ 0 ∷ 0xFF ∷ 0 ∷ 0xE2 ∷ 0
+    ∷ []
 
--- 12h at 8, index −1, step 2
+-- 12h at 16, index −1, step 2
 abbrev roString : List ℕ
 roString = 0x12 ∷ 7 ∷ 3 ∷ 8 ∷ 0 ∷ 0xFF ∷ 2 ∷ []
 
@@ -41,7 +46,7 @@ calls =
     -- a code out of the mask, a field that 13h hasn't, an RO entry in a staged set, a lane that isn't there
     ∷ write 0 2 0 3 (pos 4)
     ∷ write 0 1 0 1 (pos 0)
-    ∷ write 0 3 0 1 (pos 0)
+    ∷ write 0 4 0 1 (pos 0)
     ∷ select 0 9 1
     -- 04h: 3 in lane 3 and, not accepted but stored, 9 in lane 4
     ∷ byteWrite 0 4 0x93
@@ -58,9 +63,18 @@ calls =
     -- AppSel 2 lacks 04h, so its lane 3 stays 0
     ∷ byteRead 2 4
     ∷ read 2 0 0 3
-    ∷ publish 3 0 5 (negsuc 13)
-    ∷ byteRead 2 12
-    ∷ read 2 3 0 5
+    -- 0Dh: above Max, then −128, which is below Min, and −14
+    ∷ write 0 3 0 3 (pos 1)
+    ∷ byteWrite 0 10 0x80
+    ∷ read 0 3 0 3
+    ∷ apply 0 0x0C
+    ∷ write 0 3 0 3 (negsuc 13)
+    ∷ apply 0 0x0C
+    ∷ byteRead 2 10
+    ∷ read 2 3 0 3
+    ∷ publish 4 0 5 (negsuc 13)
+    ∷ byteRead 2 20
+    ∷ read 2 4 0 5
     ∷ publish 0 0 1 (pos 0)
     ∷ []
 
@@ -83,6 +97,14 @@ answers =
     ∷ saysYes
     ∷ number (pos 0x20)
     ∷ number (pos 1)
+    ∷ refused (plain 12)
+    ∷ saysYes
+    ∷ number (negsuc 127)
+    ∷ refused (atLane 14 3)
+    ∷ saysYes
+    ∷ saysYes
+    ∷ number (pos 0xF2)
+    ∷ number (negsuc 13)
     ∷ saysYes
     ∷ number (pos 0xF2)
     ∷ number (negsuc 13)
@@ -90,17 +112,17 @@ answers =
     ∷ []
 
 example-accepted : Accepted 2 rwString roString
-unfolding rowOf maskBytes highFirst codesOf stepOf refuse lengthChecks contentChecks decodeAt foldBy foldOf walkOf stringsOf loadOf
-example-accepted = record { rwCount = 3; roCount = 1; staged = 8; active = 16; loads = refl }
+unfolding rowOf maskBytes highFirst codesOf byteOf refuse lengthChecks contentChecks decodeAt foldBy foldOf walkOf stringsOf loadOf
+example-accepted = record { rwCount = 4; roCount = 1; staged = 16; active = 24; loads = refl }
 
 -- the bank machine, computed
 pub example-bank : bankRun 2 rwString roString bank (map call calls) .0 ≡ answers
-unfolding sum any lowest rowOf maskBytes highFirst codesOf stepOf refuse lengthChecks contentChecks decodeAt foldBy foldOf walkOf entriesFrom stringsOf loadOf rwEntries roEntries entriesOf total mapOf partsOf widthOf signedOf heldBy lengthOf firstOwner ownerOf within inMask inCodes accepts toBits fromBits check9 check8 check1to7 exists misdirected unaccepted judge atLowest bankOrder getField putField numberIn withNumber fieldBits bankLacksApp bankCopies bankHoldsBad bankPlan loop copyField applyBank bankDoes bankCall freshBank freshCall bankMakes run bankSize setStart appSelStart appSelAt
+unfolding sum any lowest rowOf maskBytes highFirst codesOf byteOf refuse lengthChecks contentChecks decodeAt foldBy foldOf walkOf entriesFrom stringsOf loadOf rwEntries roEntries entriesOf total mapOf partsOf widthOf signedOf heldBy lengthOf firstOwner ownerOf within inMask takes accepts toBits fromBits check9 check8 check1to7 exists misdirected unaccepted judge atLowest bankOrder getField putField numberIn withNumber fieldBits bankLacksApp bankCopies bankHoldsBad bankPlan loop copyField applyBank bankDoes bankCall freshBank freshCall bankMakes run bankSize setStart appSelStart appSelAt
 example-bank = refl
 
 -- the plain table, computed
 pub example-table : tableRun 2 rwString roString (map call calls) .0 ≡ answers
-unfolding sum any lowest rowOf maskBytes highFirst codesOf stepOf refuse lengthChecks contentChecks decodeAt foldBy foldOf walkOf entriesFrom stringsOf loadOf rwEntries roEntries entriesOf total mapOf partsOf widthOf signedOf heldBy lengthOf within inMask inCodes accepts toBits fromBits check9 check1to7 exists misdirected unaccepted judge atLowest orderOf byteFrom tableLacksApp tableCopies tableHoldsBad tablePlan tableDoes tableCall tableMakes run hasBytes
+unfolding sum any lowest rowOf maskBytes highFirst codesOf byteOf refuse lengthChecks contentChecks decodeAt foldBy foldOf walkOf entriesFrom stringsOf loadOf rwEntries roEntries entriesOf total mapOf partsOf widthOf signedOf heldBy lengthOf within inMask takes accepts toBits fromBits check9 check1to7 exists misdirected unaccepted judge atLowest orderOf byteFrom tableLacksApp tableCopies tableHoldsBad tablePlan tableDoes tableCall tableMakes run hasBytes
 example-table = refl
 
 -- demand 3 of this module, bank and list: its premises are met

@@ -10,12 +10,18 @@ use mir.Syntax.{w64}
 use mir.Val.{toZ}
 use mir.Facts.{toZ-ofZ, toZ-pos}
 use denote.Ref.{now}
-use Rattle.control_set.proofs.EntryList.{below-fits}
+use Rattle.descriptor.proofs.EntryLines.{lowered}
 use Rattle.control_set.proofs.plan.fields_at.Statement.{statement}
 use Rattle.control_set.proofs.plan.fields_at.Tie as tie
 
 cell-lt : (c : tie.Start) (k : ℕ) → getD (getD (now (c .args .list)) (c .args .entry) []) k 0 < 0x10000
 cell-lt c k = c .pre .1 .cell k
+
+-- a cell, as the machine reads it
+word : (c : tie.After-line) (k : ℕ) → let n = getD (getD (now (c .before .args .list)) (c .before .args .entry) []) k 0 in toZ w64 n ≡ pos n
+word c k =
+    let h = cell-lt (c .before) k in
+    toZ-pos w64 {n = getD (getD (now (c .before .args .list)) (c .before .args .entry) []) k 0} (omega (arith, h))
 
 mul-line : tie.Need-mul-line
 mul-line c = search needs
@@ -57,10 +63,7 @@ cast-t30 : tie.Need-cast-t30
 cast-t30 c = record { sfits = omega (arith, cell-lt (c .before) 5) }
 
 sub-t31 : tie.Need-sub-t31
-sub-t31 c =
-    let n = getD (getD (now (c .before .args .list)) (c .before .args .entry) []) 5 0 in
-    let h : n < 0x10000 = cell-lt (c .before) 5 in
-    rw (toZ-pos w64 {n = n} (omega arith)) (below-fits n h)
+sub-t31 c = rw (word c 5) (lowered _ (cell-lt (c .before) 5))
 
 array-read-t34 : tie.Need-array-read-t34
 array-read-t34 c = search needs
@@ -68,26 +71,20 @@ array-read-t34 c = search needs
 cast-t35 : tie.Need-cast-t35
 cast-t35 c = record { sfits = omega (arith, cell-lt (c .before) 6) }
 
-array-read-t38 : tie.Need-array-read-t38
-array-read-t38 c = search needs
+sub-t36 : tie.Need-sub-t36
+sub-t36 c = rw (word c 6) (lowered _ (cell-lt (c .before) 6))
 
-array-read-t42 : tie.Need-array-read-t42
-array-read-t42 c = search needs
+array-read-t39 : tie.Need-array-read-t39
+array-read-t39 c = search needs
 
-cast-t43 : tie.Need-cast-t43
-cast-t43 c = record { fits = omega (arith, cell-lt (c .before) 8) }
+array-read-t43 : tie.Need-array-read-t43
+array-read-t43 c = search needs
+
+cast-t44 : tie.Need-cast-t44
+cast-t44 c = record { fits = omega (arith, cell-lt (c .before) 8) }
 
 returns : tie.Need-returns
-returns c =
-    let s = c .before in
-    let line = getD (now (s .args .list)) (s .args .entry) [] in
-    let low = getD line 5 0 in
-    let high = getD line 6 0 in
-    let h : low < 0x10000 = cell-lt s 5 in
-    let k : high < 0x10000 = cell-lt s 6 in
-    let p : toZ w64 low ≡ pos low = toZ-pos w64 {n = low} (omega arith) in
-    let q : toZ w64 high ≡ pos high = toZ-pos w64 {n = high} (omega arith) in
-    rw (p, q, toZ-ofZ (below-fits low h)) refl
+returns c = rw (word c 5, word c 6, toZ-ofZ (lowered _ (cell-lt (c .before) 5)), toZ-ofZ (lowered _ (cell-lt (c .before) 6))) refl
 
 pub fields-at-spec : {M : Type 1} → statement M
 fields-at-spec =
@@ -109,7 +106,8 @@ fields-at-spec =
     sub-t31
     array-read-t34
     cast-t35
-    array-read-t38
-    array-read-t42
-    cast-t43
+    sub-t36
+    array-read-t39
+    array-read-t43
+    cast-t44
     returns)

@@ -8,10 +8,10 @@ shared-slice-read-result : tie.Need-shared-slice-read-result
 shared-slice-read-result c = c .before .before .pre (c .before .if1 .taken)
 
 returns : tie.Need-returns
-returns c = rw (lt-ltb 0 (c .before .before .args .read) (c .before .if1 .taken)) refl
+returns c = rw (lt-ltb 3 (c .before .before .args .least) (c .before .if1 .taken)) refl
 
 returns-2 : tie.Need-returns-2
-returns-2 c = rw (le-ltb 0 (c .before .args .read) (c .if1 .left)) refl
+returns-2 c = rw (le-ltb 3 (c .before .args .least) (c .if1 .left)) refl
 
 pub media-at-spec : {M : Type 1} → statement M
 media-at-spec = tie.close (tie.spec shared-slice-read-result returns returns-2)

@@ -3,22 +3,20 @@ use borrow.Author.Needs.{needs}
 use mathlib.Core.Path.{_≡_, refl}
 use mathlib.Core.Bool.{Bool, true, false}
 use native.Mathlib.Omega.{arith}
-use lib.IntN.{pos, _-ℤ_}
+use lib.IntN.{pos, _+ℤ_}
 use mir.Syntax.{w64}
 use mir.Val.{toZ, ofZ, boolByte}
-use Rattle.descriptor.specs.EntryLines.{below, flag}
-use Rattle.descriptor.proofs.EntryLines.{far-back, far-word}
+use Rattle.descriptor.specs.EntryLines.{raised, flag}
+use Rattle.descriptor.proofs.EntryLines.{raised-word, word}
 use Rattle.descriptor.proofs.reading.line_of.Statement.{statement}
 use Rattle.descriptor.proofs.reading.line_of.Tie as tie
 
--- the accepted numbers, as the machine reads them
-far : (c : tie.Start) →
-    let f = c .args .f in
-    (pos 0 -ℤ toZ w64 (ofZ w64 (f .low)) ≡ pos (c .pre .1 .far)) × (below (f .low) ≡ c .pre .1 .far)
-far c = let p = c .pre .1 in far-back (c .args .f .low) (p .far) (p .far-is) (p .far-small)
+-- the ends of the accepted numbers, raised as the machine does it
+low : (c : tie.Start) → toZ w64 (ofZ w64 (c .args .f .low)) +ℤ pos 128 ≡ pos (raised (c .args .f .low))
+low c = raised-word (c .args .f .low) (c .pre .1 .low)
 
-top : (c : tie.Start) → toZ w64 (ofZ w64 (c .args .f .high)) ≡ pos (c .pre .1 .top)
-top c = let p = c .pre .1 in rw (p .top-is) (far-word (p .top) (p .top-small))
+high : (c : tie.Start) → toZ w64 (ofZ w64 (c .args .f .high)) +ℤ pos 128 ≡ pos (raised (c .args .f .high))
+high c = raised-word (c .args .f .high) (c .pre .1 .high)
 
 byte : (b : Bool) → boolByte b ≡ flag b
 byte true = refl
@@ -39,35 +37,42 @@ cast-t6 c = search needs
 cast-t7 : tie.Need-cast-t7
 cast-t7 c = search needs
 
-sub-t8 : tie.Need-sub-t8
-sub-t8 c =
+add-t8 : tie.Need-add-t8
+add-t8 c =
     let s = c .before .before .before .before .before .before in
-    let l = s .pre .1 .far-small in
-    rw (far s .0) (record { sfits = omega (arith, l) })
+    let l = s .pre .1 .low .small in
+    rw (low s) (record { sfits = omega (arith, l) })
 
 cast-t9 : tie.Need-cast-t9
 cast-t9 c =
     let s = c .before .before .before .before .before .before in
-    let l = s .pre .1 .far-small in
-    rw (far s .0, far-word (s .pre .1 .far) l) (tt, record { fits = omega (arith, l) })
+    let l = s .pre .1 .low .small in
+    rw (low s, word (raised (s .args .f .low)) l) (tt, record { fits = omega (arith, l) })
 
-cast-t10 : tie.Need-cast-t10
-cast-t10 c =
+add-t10 : tie.Need-add-t10
+add-t10 c =
     let s = c .before .before .before .before .before .before .before .before in
-    let l = s .pre .1 .top-small in
-    rw (top s) (tt, record { fits = omega (arith, l) })
+    let l = s .pre .1 .high .small in
+    rw (high s) (record { sfits = omega (arith, l) })
 
 cast-t11 : tie.Need-cast-t11
-cast-t11 c = search needs
+cast-t11 c =
+    let s = c .before .before .before .before .before .before .before .before in
+    let l = s .pre .1 .high .small in
+    rw (high s, word (raised (s .args .f .high)) l) (tt, record { fits = omega (arith, l) })
 
 cast-t12 : tie.Need-cast-t12
 cast-t12 c = search needs
+
+cast-t13 : tie.Need-cast-t13
+cast-t13 c = search needs
 
 returns : tie.Need-returns
 returns c =
     let s = c .before .before .before .before .before .before .before .before .before .before in
     let p = s .pre .1 in
-    rw (far s .0, far s .1, far-word (p .far) (p .far-small), top s, p .top-is) (rw (byte (s .args .f .signed), byte (s .args .f .coded)) refl)
+    let f = s .args .f in
+    rw (low s, high s, word (raised (f .low)) (p .low .small), word (raised (f .high)) (p .high .small)) (rw (byte (f .signed), byte (f .coded)) refl)
 
 pub line-of-spec : {M : Type 1} → statement M
 line-of-spec =
@@ -78,9 +83,10 @@ line-of-spec =
     cast-t5
     cast-t6
     cast-t7
-    sub-t8
+    add-t8
     cast-t9
-    cast-t10
+    add-t10
     cast-t11
     cast-t12
+    cast-t13
     returns)

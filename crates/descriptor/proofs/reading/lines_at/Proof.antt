@@ -32,8 +32,8 @@ line-at-requires c κs =
     let p = t .before .before .before .pre in
     (record { classes-are = refl; shapes-are = refl }, (p .0, p .1, on t))
 
-mul-t25 : tie.Need-mul-t25 Inv-loop μ-loop
-mul-t25 c = let t = c .before .before .before in omega (arith, t .loop-test .taken, t .before .before .before .pre .2)
+mul-t26 : tie.Need-mul-t26 Inv-loop μ-loop
+mul-t26 c = let t = c .before .before .before in omega (arith, t .loop-test .taken, t .before .before .before .pre .2)
 
 element-set-from-list : tie.Need-element-set-from-list Inv-loop μ-loop
 element-set-from-list c = let t = c .before .before .before in omega (arith, t .loop-test .taken, t .before .before .before .pre .2)
@@ -74,7 +74,7 @@ lines-at-spec =
     μ-loop
     loop-holds
     line-at-requires
-    mul-t25
+    mul-t26
     element-set-from-list
     past-requires
     add-i

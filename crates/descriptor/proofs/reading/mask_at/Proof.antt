@@ -23,7 +23,8 @@ returns-2 : tie.Need-returns-2
 returns-2 c =
     let s = c .before .before .before in
     let q : s .args .a ≡ 2 = omega (arith, c .before .if1 .left, s .pre) in
-    rw q (c .pair-from .ensures)
+    let e = c .pair-from .ensures in
+    rw q (e .is, e .small)
 
 pub mask-at-spec : {M : Type 1} → statement M
 mask-at-spec = tie.close (tie.spec byte-from-requires returns pair-from-requires returns-2)

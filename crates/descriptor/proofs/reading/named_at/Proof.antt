@@ -2,15 +2,17 @@
 use borrow.Author.Needs.{needs}
 use mathlib.Core.Path.{_≡_, refl}
 use mathlib.Core.List.{[]}
-use Prim.Native.Nat.{_<_}
+use Prim.Native.Nat.{ℕ, _/_, _^_, _<_}
+use native.Mathlib.Nat.{div-le-self}
 use native.Mathlib.Omega.{arith}
 use lib.ListN.{getD}
 use mir.Syntax.{w64}
 use mir.Val.{toZ, ofZ}
 use denote.Ref.{now}
-use Rattle.descriptor.specs.Rows.{shapeAt, stepPlace, valuesOf}
+use Rattle.rules.specs.Parameter.{rowOf, min, max}
+use Rattle.descriptor.specs.Rows.{shapeAt, placeIn, valuesOf}
 use Rattle.descriptor.proofs.TableRows.{shape, small}
-use Rattle.descriptor.proofs.Wides.{named-read}
+use Rattle.descriptor.proofs.Wides.{bit-small, named-read}
 use Rattle.descriptor.proofs.reading.named_at.Statement.{statement}
 use Rattle.descriptor.proofs.reading.named_at.Tie as tie
 
@@ -24,19 +26,36 @@ parts-small c = let id = c .before .byte-at .result in rw (shape-is c, shape id 
 width-small : (c : tie.After-class-of) → getD (getD (now (c .before .before .before .args .shapes)) (c .class-of .result) []) 1 0 < 16
 width-small c = let id = c .before .byte-at .result in rw (shape-is c, shape id .1) (small id .narrow)
 
-mask-place : (c : tie.After-values-of) → c .values-of .result .place < 256
+place-small : (c : tie.After-values-of) → c .values-of .result .place < 256
 unfolding valuesOf
-mask-place c = rw (c .values-of .ensures) (small (c .before .before .before .byte-at .result) .mask-place)
+place-small c = rw (c .values-of .ensures) (small (c .before .before .before .byte-at .result) .place)
 
-step-place : (c : tie.After-step-place) → c .step-place .result < 256
-unfolding stepPlace
-step-place c = rw (c .step-place .ensures) (small (c .before .before .before .before .before .before .byte-at .result) .step-place)
+min-small : (c : tie.After-values-of) → c .values-of .result .«min_bit» < 64
+unfolding valuesOf
+min-small c =
+    let x = rowOf (c .before .before .before .byte-at .result) .extras in
+    rw (c .values-of .ensures) (bit-small (placeIn min x) (placeIn max x))
+
+max-small : (c : tie.After-values-of) → c .values-of .result .«max_bit» < 64
+unfolding valuesOf
+max-small c =
+    let x = rowOf (c .before .before .before .byte-at .result) .extras in
+    rw (c .values-of .ensures) (bit-small (placeIn max x) (placeIn min x))
+
+shifted : (c : tie.After-pair-at) (k : ℕ) → c .pair-at .result / 2 ^ k < 0x10000
+shifted c k = omega (arith, div-le-self (c .pair-at .result) (2 ^ k), c .pair-at .ensures .fits)
 
 -- numbers, as the machine hands them on
-low : (c : tie.After-struct-told) → let v = c .before .before .before .before .before .values-of .result in toZ w64 (ofZ w64 (v .low)) ≡ v .low
+fixed-low : (c : tie.After-struct-told) → let v = c .before .before .before .values-of .result in toZ w64 (ofZ w64 (v .low)) ≡ v .low
+fixed-low c = search needs
+
+fixed-high : (c : tie.After-struct-told2) → let v = c .before .before .before .before .before .before .values-of .result in toZ w64 (ofZ w64 (v .high)) ≡ v .high
+fixed-high c = search needs
+
+low : (c : tie.After-limit) → toZ w64 (ofZ w64 (c .limit .result)) ≡ c .limit .result
 low c = search needs
 
-high : (c : tie.After-struct-told) → let v = c .before .before .before .before .before .values-of .result in toZ w64 (ofZ w64 (v .high)) ≡ v .high
+high : (c : tie.After-limit2) → toZ w64 (ofZ w64 (c .limit2 .result)) ≡ c .limit2 .result
 high c = search needs
 
 byte-at-requires : tie.Need-byte-at-requires
@@ -54,47 +73,54 @@ element-copy-out-shape c = c .class-of .ensures .1
 values-of-requires : tie.Need-values-of-requires
 values-of-requires c κs = search needs
 
-add-from : tie.Need-add-from
-add-from c = search needs
+add-pair-at : tie.Need-add-pair-at
+add-pair-at c = search needs
 
-cast-t12 : tie.Need-cast-t12
-cast-t12 c = search needs
+pair-at-requires : tie.Need-pair-at-requires
+pair-at-requires c κs = let p = c .before .before .before .before .before .pre .1 in (omega (arith, p), omega (arith, place-small c))
+
+cast-t13 : tie.Need-cast-t13
+cast-t13 c = search needs
 
 array-read-t19 : tie.Need-array-read-t19
 array-read-t19 c = omega arith
 
-cast-t13 : tie.Need-cast-t13
-cast-t13 c = record { fits = omega (arith, parts-small (c .before .before)) }
+cast-t12 : tie.Need-cast-t12
+cast-t12 c = record { fits = omega (arith, parts-small (c .before .before .before)) }
 
 array-read-t22 : tie.Need-array-read-t22
 array-read-t22 c = omega arith
 
 cast-t23 : tie.Need-cast-t23
-cast-t23 c = record { fits = omega (arith, width-small (c .before .before)) }
+cast-t23 c = record { fits = omega (arith, width-small (c .before .before .before)) }
 
-codes-at-requires : tie.Need-codes-at-requires
-codes-at-requires c κs = let p = c .before .before .before .before .before .before .pre .1 in (omega (arith, p), omega (arith, mask-place (c .before)))
+shr-limit : tie.Need-shr-limit
+shr-limit c = min-small (c .before .before)
 
-step-place-requires : tie.Need-step-place-requires
-step-place-requires c κs = search needs
+limit-requires : tie.Need-limit-requires
+limit-requires c κs = shifted (c .before .before) (c .before .before .before .values-of .result .«min_bit»)
 
-step-at-requires : tie.Need-step-at-requires
-step-at-requires c κs = let p = c .before .before .before .before .before .before .before .before .pre .1 in (omega (arith, p), omega (arith, step-place c))
+shr-limit-2 : tie.Need-shr-limit-2
+shr-limit-2 c = max-small (c .before .before .before .before .before)
 
-cast-t28 : tie.Need-cast-t28
-cast-t28 c = search needs
+limit-requires-2 : tie.Need-limit-requires-2
+limit-requires-2 c κs = shifted (c .before .before .before .before .before) (c .before .before .before .before .before .before .values-of .result .«max_bit»)
+
+step-of-requires : tie.Need-step-of-requires
+step-of-requires c κs = search needs
 
 returns : tie.Need-returns
 returns c =
-    let st = c .before in
-    let sp = st .before in
-    let ca = sp .before in
-    let v = ca .before .before in
-    let l = v .before .before in
-    let b = l .before in
+    let l2 = c .before .before .before in
+    let l1 = l2 .before .before .before in
+    let q = l1 .before .before .before in
+    let v = q .before in
+    let k = v .before .before in
+    let b = k .before in
     let g = b .before .before .args in
-    named-read (g .in-ro) (g .a) (now (g .s)) (g .start) (g .offset) (b .byte-at .result) (getD (now (g .shapes)) (l .class-of .result) []) (v .values-of .result) _ _ (ca .codes-at .result) (st .step-at .result)
-    (b .byte-at .ensures) (shape-is l) (v .values-of .ensures) (low c) (high c) (ca .codes-at .ensures) (rw (← sp .step-place .ensures) (st .step-at .ensures))
+    rw (low l1, high l2)
+    (named-read (g .in-ro) (g .a) (now (g .s)) (g .start) (g .offset) (b .byte-at .result) (getD (now (g .shapes)) (k .class-of .result) []) (v .values-of .result) (q .pair-at .result) (l1 .limit .result) (l2 .limit2 .result) (c .step-of .result)
+    (b .byte-at .ensures) (shape-is k) (v .values-of .ensures) (q .pair-at .ensures) (rw (fixed-low (l1 .before)) at (l1 .limit .ensures)) (rw (fixed-high (l2 .before)) at (l2 .limit2 .ensures)) (c .step-of .ensures))
 
 pub named-at-spec : {M : Type 1} → statement M
 named-at-spec =
@@ -105,14 +131,16 @@ named-at-spec =
     mul-shape
     element-copy-out-shape
     values-of-requires
-    add-from
-    cast-t12
-    array-read-t19
+    add-pair-at
+    pair-at-requires
     cast-t13
+    array-read-t19
+    cast-t12
     array-read-t22
     cast-t23
-    codes-at-requires
-    step-place-requires
-    step-at-requires
-    cast-t28
+    shr-limit
+    limit-requires
+    shr-limit-2
+    limit-requires-2
+    step-of-requires
     returns)

@@ -28,13 +28,22 @@ returns : tie.Need-returns
 returns c =
     let k = c .before in
     let a = k .before .before .before .args in
-    (ap₂ (λ x y. x * 256 + y) (k .byte-from .ensures .0) (c .byte-from2 .ensures .0) ∙ sym (high-two (now (a .s)) (a .at)), omega (arith, k .byte-from .ensures .1, c .byte-from2 .ensures .1))
+    let h = k .byte-from .ensures in
+    let l = c .byte-from2 .ensures in
+    record {
+      is = ap₂ (λ x y. x * 256 + y) (h .0) (l .0) ∙ sym (high-two (now (a .s)) (a .at));
+      small = omega (arith, h .1, l .1);
+      high = omega (arith, l .1, h .0);
+      low = omega (arith, l .1, l .0);
+    }
 
 returns-2 : tie.Need-returns-2
 returns-2 c =
     let a = c .before .before .args in
     let l : length (now (a .s)) ≤ a .at = c .if1 .left in
-    (sym (high-two (now (a .s)) (a .at) ∙ rw (List·getD-eq-default (now (a .s)) 0 {n = a .at} l, List·getD-eq-default (now (a .s)) 0 {n = a .at + 1} (omega arith)) refl), omega arith)
+    let p = List·getD-eq-default (now (a .s)) 0 {n = a .at} l in
+    let q = List·getD-eq-default (now (a .s)) 0 {n = a .at + 1} (omega arith) in
+    record { is = sym (high-two (now (a .s)) (a .at) ∙ rw (p, q) refl); small = omega arith; high = sym p; low = sym q }
 
 pub pair-from-spec : {M : Type 1} → statement M
 pair-from-spec =

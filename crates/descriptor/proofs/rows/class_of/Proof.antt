@@ -10,7 +10,7 @@ use Rattle.descriptor.proofs.TableRows.{class-small}
 use Rattle.descriptor.proofs.rows.class_of.Statement.{statement}
 use Rattle.descriptor.proofs.rows.class_of.Tie as tie
 
-class-lt : (c : tie.Then1) → let a = c .before .args in getD (now (a .table)) (a .id) 0 < 10
+class-lt : (c : tie.Then1) → let a = c .before .args in getD (now (a .table)) (a .id) 0 < 11
 unfolding classOf
 class-lt c = rw (c .before .pre) (class-small (c .before .args .id))
 
