@@ -29,13 +29,14 @@ static const struct {
     {9, 9},   /* 10h, for Tx: 9 dB */
 };
 
-/* Ends the program if a call was refused. Refusals 1 to 7 name an entry, 13 and 14 a lane, the others nothing. */
+/* Ends the program if a call was refused. Refusals 16 and 1 to 7 name an entry, 13 and 14 a lane, the others nothing. */
 static void accepted(const char *call, vcs_answer answer)
 {
     size_t number = answer.refusal;
     if (number != 0) {
+        int entry = number == 16 || number <= 7, lane = number == 13 || number == 14;
         printf("%s: refused with %zu", call, number);
-        printf(number <= 7 ? ", entry %zu\n" : number == 13 || number == 14 ? ", lane %zu\n" : "\n", answer.at);
+        printf(entry ? ", entry %zu\n" : lane ? ", lane %zu\n" : "\n", answer.at);
         exit(1);
     }
 }

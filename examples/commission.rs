@@ -22,11 +22,11 @@ const SETTINGS: [(usize, i64); 8] = [
     (9, 9),   // 10h, for Tx: 9 dB
 ];
 
-/// Ends the program if a call was refused. Refusals 1 to 7 name an entry, 13 and 14 a lane, the others nothing.
+/// Ends the program if a call was refused. Refusals 16 and 1 to 7 name an entry, 13 and 14 a lane, the others nothing.
 fn accepted(call: &str, vcs::Answer { refusal, at, .. }: vcs::Answer) {
     match refusal {
         0 => return,
-        1..=7 => println!("{call}: refused with {refusal}, entry {at}"),
+        16 | 1..=7 => println!("{call}: refused with {refusal}, entry {at}"),
         13 | 14 => println!("{call}: refused with {refusal}, lane {at}"),
         _ => println!("{call}: refused with {refusal}"),
     }

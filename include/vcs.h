@@ -4,8 +4,8 @@
    A bank is lent likewise and overlaps no string; under VCS_BANK_SIZE bytes it is refused with 8. No call changes a byte
    beyond VCS_BANK_SIZE, and a refused call changes none.
    Every number may have any value: what doesn't exist is refused. In an answer, `refusal` is 0 if the call is accepted,
-   otherwise document 01's number; `at` is then the entry that 1 to 7 name, or the lane that 13 and 14 name, else 0. All
-   other members are 0 in a refused answer, but for the reader's position.
+   otherwise the documents' number (01 and 02); `at` is then the entry that 16 and 1 to 7 name, or the lane that 13
+   and 14 name, else 0. All other members are 0 in a refused answer, but for the reader's position.
    Numbers of fields are unsigned, but those of 09h, 0Ah, 0Dh, 11h and 12h have a sign. Write takes of 09h, 0Ah and 0Dh a
    number from the entry's Min to its Max. Weight alone multiplies by a step, that of 12h.
    The library needs `memset` from the C library, nothing else. */
@@ -18,6 +18,9 @@
 #ifdef __cplusplus
 extern "C" {
 #endif
+
+/* The most entries of a string; one more is refused with 16. */
+#define VCS_ENTRY_LIMIT 16
 
 /* The bank: staged sets 0 and 1 and the active set, 2, then the AppSels of each staged set, a byte for each lane (1 to 8). */
 #define VCS_BANK_SIZE 784
@@ -84,7 +87,7 @@ typedef struct {
 /* A call as data. Each kind reads its own arguments and ignores the other members:
    0 select (set, lane, app), 1 write (set, entry, part, lane, value), 2 read (set, entry, part, lane),
    3 byte write (set, offset, byte), 4 byte read (set, offset), 5 publish (entry, part, lane, value), 6 apply (set, lanes).
-   A kind above 6 doesn't exist: refused with 10, after 9, 8 and 1 to 7. */
+   A kind above 6 doesn't exist: refused with 10, after 9, 8, 16 and 1 to 7. */
 typedef struct {
     size_t kind;
     size_t set;
@@ -98,52 +101,53 @@ typedef struct {
     uint8_t lanes;
 } vcs_call;
 
-/* The load: the check of both strings. Refusals 9, 1 to 7. */
+/* The load: the check of both strings. Refusals 9, 16, 1 to 7. */
 vcs_loaded vcs_load(size_t count, const uint8_t *rw, size_t rw_length, const uint8_t *ro, size_t ro_length);
 
-/* The entry call: the entry's own bytes are `length` bytes from `start` of its string. Refusals 9, 1 to 7, 10. */
+/* The entry call: the entry's own bytes are `length` bytes from `start` of its string. Refusals 9, 16, 1 to 7, 10. */
 vcs_located vcs_entry(size_t count, const uint8_t *rw, size_t rw_length, const uint8_t *ro, size_t ro_length, size_t entry);
 
 /* The place call: the field of an entry, part and lane (1 to 8) in staged set 0 or 1, or in the active set, 2. Refusals 9,
-   1 to 7, 10, 11. */
+   16, 1 to 7, 10, 11. */
 vcs_placed vcs_place(size_t count, const uint8_t *rw, size_t rw_length, const uint8_t *ro, size_t ro_length, size_t set,
                      size_t entry, size_t part, size_t lane);
 
-/* The owner call: bit 0 to 7 of the byte at an offset of a set. Refusals 9, 1 to 7, 10. */
+/* The owner call: bit 0 to 7 of the byte at an offset of a set. Refusals 9, 16, 1 to 7, 10. */
 vcs_owned vcs_owner(size_t count, const uint8_t *rw, size_t rw_length, const uint8_t *ro, size_t ro_length, size_t set,
                     size_t offset, size_t bit);
 
-/* Fresh: clears the bank, and answers as the load does. Refusals 9, 8, 1 to 7. */
+/* Fresh: clears the bank, and answers as the load does. Refusals 9, 8, 16, 1 to 7. */
 vcs_loaded vcs_fresh(size_t count, const uint8_t *rw, size_t rw_length, const uint8_t *ro, size_t ro_length,
                      uint8_t *bank, size_t bank_length);
 
-/* Select: stores an app, 0 to count, as AppSel of a lane (1 to 8) of staged set 0 or 1. Refusals 9, 8, 1 to 7, 10 to 12. */
+/* Select: stores an app, 0 to count, as AppSel of a lane (1 to 8) of staged set 0 or 1. Refusals 9, 8, 16, 1 to 7,
+   10 to 12. */
 vcs_answer vcs_select(size_t count, const uint8_t *rw, size_t rw_length, const uint8_t *ro, size_t ro_length,
                       uint8_t *bank, size_t bank_length, size_t set, size_t lane, size_t app);
 
-/* Write: stores an accepted value in a field of an RW entry in staged set 0 or 1. Refusals 9, 8, 1 to 7, 10 to 12. */
+/* Write: stores an accepted value in a field of an RW entry in staged set 0 or 1. Refusals 9, 8, 16, 1 to 7, 10 to 12. */
 vcs_answer vcs_write(size_t count, const uint8_t *rw, size_t rw_length, const uint8_t *ro, size_t ro_length,
                      uint8_t *bank, size_t bank_length, size_t set, size_t entry, size_t part, size_t lane, int64_t value);
 
-/* Read: the number of a field in set 0, 1 or 2. Refusals 9, 8, 1 to 7, 10, 11. */
+/* Read: the number of a field in set 0, 1 or 2. Refusals 9, 8, 16, 1 to 7, 10, 11. */
 vcs_answer vcs_read(size_t count, const uint8_t *rw, size_t rw_length, const uint8_t *ro, size_t ro_length,
                     const uint8_t *bank, size_t bank_length, size_t set, size_t entry, size_t part, size_t lane);
 
-/* Publish: stores an accepted value in a field of an RO entry in the active set. Refusals 9, 8, 1 to 7, 10 to 12. */
+/* Publish: stores an accepted value in a field of an RO entry in the active set. Refusals 9, 8, 16, 1 to 7, 10 to 12. */
 vcs_answer vcs_publish(size_t count, const uint8_t *rw, size_t rw_length, const uint8_t *ro, size_t ro_length,
                        uint8_t *bank, size_t bank_length, size_t entry, size_t part, size_t lane, int64_t value);
 
-/* Byte write: stores a byte of staged set 0 or 1, any value, with its gaps 0. Refusals 9, 8, 1 to 7, 10, 11. */
+/* Byte write: stores a byte of staged set 0 or 1, any value, with its gaps 0. Refusals 9, 8, 16, 1 to 7, 10, 11. */
 vcs_answer vcs_byte_write(size_t count, const uint8_t *rw, size_t rw_length, const uint8_t *ro, size_t ro_length,
                           uint8_t *bank, size_t bank_length, size_t set, size_t offset, uint8_t byte);
 
-/* Byte read: the byte at an offset of set 0, 1 or 2, with its gaps 0. Refusals 9, 8, 1 to 7, 10. */
+/* Byte read: the byte at an offset of set 0, 1 or 2, with its gaps 0. Refusals 9, 8, 16, 1 to 7, 10. */
 vcs_answer vcs_byte_read(size_t count, const uint8_t *rw, size_t rw_length, const uint8_t *ro, size_t ro_length,
                          const uint8_t *bank, size_t bank_length, size_t set, size_t offset);
 
 /* Apply: for each chosen lane (bit i - 1 of `lanes` is lane i), copies each RW field whose entry's mask has the lane's
    AppSel from staged set 0 or 1 to the active set; all or nothing. An empty mask changes nothing and is accepted.
-   Refusals 9, 8, 1 to 7, 10, 11, 13, 14. */
+   Refusals 9, 8, 16, 1 to 7, 10, 11, 13, 14. */
 vcs_answer vcs_apply(size_t count, const uint8_t *rw, size_t rw_length, const uint8_t *ro, size_t ro_length,
                      uint8_t *bank, size_t bank_length, size_t set, uint8_t lanes);
 
@@ -151,12 +155,13 @@ vcs_answer vcs_apply(size_t count, const uint8_t *rw, size_t rw_length, const ui
 vcs_answer vcs_perform(size_t count, const uint8_t *rw, size_t rw_length, const uint8_t *ro, size_t ro_length,
                        uint8_t *bank, size_t bank_length, vcs_call call);
 
-/* Weight: the active number of a 12h field, in thousandths. Refusals 9, 8, 1 to 7, 10. */
+/* Weight: the active number of a 12h field, in thousandths. Refusals 9, 8, 16, 1 to 7, 10. */
 vcs_answer vcs_weight(size_t count, const uint8_t *rw, size_t rw_length, const uint8_t *ro, size_t ro_length,
                       const uint8_t *bank, size_t bank_length, size_t entry, size_t lane);
 
 /* What a reader takes from one string at any position: the entry that begins there, or the end if no byte is left from it on.
-   From 0 on, each time at the position that the one before gave, it takes the string's entries in order. Refusals 9, 1, 2. */
+   From 0 on, each time at the position that the one before gave, it takes the string's entries in order, past the limit too.
+   Refusals 9, 1, 2, never 16. */
 vcs_taken vcs_take(size_t count, const uint8_t *string, size_t string_length, size_t position);
 
 #ifdef __cplusplus

@@ -8,10 +8,14 @@
 // No call changes a byte of a string. A bank under `BANK_SIZE` bytes is refused with 8. No call changes a byte beyond
 // `BANK_SIZE`, and a refused call changes none.
 // Every number may have any value: what doesn't exist is refused. In an answer, `refusal` is 0 if the call is accepted,
-// otherwise document 01's number; `at` is then the entry that 1 to 7 name, or the lane that 13 and 14 name, else 0. All
-// other members are 0 in a refused answer, but for the reader's position.
+// otherwise the documents' number (01 and 02); `at` is then the entry that 16 and 1 to 7 name, or the lane that 13
+// and 14 name, else 0. All other members are 0 in a refused answer, but for the reader's position.
 // Numbers of fields are unsigned, but those of 09h, 0Ah, 0Dh, 11h and 12h have a sign. Write takes of 09h, 0Ah and 0Dh a
 // number from the entry's Min to its Max. Weight alone multiplies by a step, that of 12h.
+
+/// The most entries of a string; one more is refused with 16.
+#[allow(dead_code)]
+pub const ENTRY_LIMIT: usize = 16;
 
 /// The bytes of a bank: staged sets 0 and 1 and the active set, 2, then the AppSels of each staged set.
 #[allow(dead_code)]
@@ -104,7 +108,7 @@ pub struct Taken {
 /// A call as data. Each kind reads its own arguments and ignores the other members:
 /// 0 select (set, lane, app), 1 write (set, entry, part, lane, value), 2 read (set, entry, part, lane),
 /// 3 byte write (set, offset, byte), 4 byte read (set, offset), 5 publish (entry, part, lane, value),
-/// 6 apply (set, lanes). A kind above 6 doesn't exist: refused with 10, after 9, 8 and 1 to 7.
+/// 6 apply (set, lanes). A kind above 6 doesn't exist: refused with 10, after 9, 8, 16 and 1 to 7.
 #[repr(C)]
 #[derive(Clone, Copy, Debug, Default, PartialEq, Eq)]
 pub struct Call {
@@ -135,62 +139,64 @@ macro_rules! calls {
 }
 
 calls! {
-    /// The load: the check of both strings. Refusals 9, 1 to 7.
+    /// The load: the check of both strings. Refusals 9, 16, 1 to 7.
     load() -> Loaded = vcs_load();
 
-    /// The entry call: the entry's own bytes are `length` bytes from `start` of its string. Refusals 9, 1 to 7, 10.
+    /// The entry call: the entry's own bytes are `length` bytes from `start` of its string. Refusals 9, 16, 1 to 7, 10.
     entry(entry: usize) -> Located = vcs_entry(entry);
 
     /// The place call: the field of an entry, part and lane (1 to 8) in staged set 0 or 1, or in the active set, 2.
-    /// Refusals 9, 1 to 7, 10, 11.
+    /// Refusals 9, 16, 1 to 7, 10, 11.
     place(set: usize, entry: usize, part: usize, lane: usize) -> Placed = vcs_place(set, entry, part, lane);
 
-    /// The owner call: bit 0 to 7 of the byte at an offset of a set. Refusals 9, 1 to 7, 10.
+    /// The owner call: bit 0 to 7 of the byte at an offset of a set. Refusals 9, 16, 1 to 7, 10.
     owner(set: usize, offset: usize, bit: usize) -> Owned = vcs_owner(set, offset, bit);
 
-    /// Fresh: clears the bank, and answers as the load does. Refusals 9, 8, 1 to 7.
+    /// Fresh: clears the bank, and answers as the load does. Refusals 9, 8, 16, 1 to 7.
     fresh(bank: &mut [u8]) -> Loaded = vcs_fresh(bank.as_mut_ptr(), bank.len());
 
-    /// Select: stores an app, 0 to count, as AppSel of a lane (1 to 8) of staged set 0 or 1. Refusals 9, 8, 1 to 7,
+    /// Select: stores an app, 0 to count, as AppSel of a lane (1 to 8) of staged set 0 or 1. Refusals 9, 8, 16, 1 to 7,
     /// 10 to 12.
     select(bank: &mut [u8], set: usize, lane: usize, app: usize) -> Answer =
         vcs_select(bank.as_mut_ptr(), bank.len(), set, lane, app);
 
-    /// Write: stores an accepted value in a field of an RW entry in staged set 0 or 1. Refusals 9, 8, 1 to 7, 10 to 12.
+    /// Write: stores an accepted value in a field of an RW entry in staged set 0 or 1. Refusals 9, 8, 16, 1 to 7,
+    /// 10 to 12.
     write(bank: &mut [u8], set: usize, entry: usize, part: usize, lane: usize, value: i64) -> Answer =
         vcs_write(bank.as_mut_ptr(), bank.len(), set, entry, part, lane, value);
 
-    /// Read: the number of a field in set 0, 1 or 2. Refusals 9, 8, 1 to 7, 10, 11.
+    /// Read: the number of a field in set 0, 1 or 2. Refusals 9, 8, 16, 1 to 7, 10, 11.
     read(bank: &[u8], set: usize, entry: usize, part: usize, lane: usize) -> Answer =
         vcs_read(bank.as_ptr(), bank.len(), set, entry, part, lane);
 
-    /// Publish: stores an accepted value in a field of an RO entry in the active set. Refusals 9, 8, 1 to 7, 10 to 12.
+    /// Publish: stores an accepted value in a field of an RO entry in the active set. Refusals 9, 8, 16, 1 to 7,
+    /// 10 to 12.
     publish(bank: &mut [u8], entry: usize, part: usize, lane: usize, value: i64) -> Answer =
         vcs_publish(bank.as_mut_ptr(), bank.len(), entry, part, lane, value);
 
-    /// Byte write: stores a byte of staged set 0 or 1, any value, with its gaps 0. Refusals 9, 8, 1 to 7, 10, 11.
+    /// Byte write: stores a byte of staged set 0 or 1, any value, with its gaps 0. Refusals 9, 8, 16, 1 to 7, 10, 11.
     byte_write(bank: &mut [u8], set: usize, offset: usize, byte: u8) -> Answer =
         vcs_byte_write(bank.as_mut_ptr(), bank.len(), set, offset, byte);
 
-    /// Byte read: the byte at an offset of set 0, 1 or 2, with its gaps 0. Refusals 9, 8, 1 to 7, 10.
+    /// Byte read: the byte at an offset of set 0, 1 or 2, with its gaps 0. Refusals 9, 8, 16, 1 to 7, 10.
     byte_read(bank: &[u8], set: usize, offset: usize) -> Answer =
         vcs_byte_read(bank.as_ptr(), bank.len(), set, offset);
 
     /// Apply: for each chosen lane (bit i - 1 of `lanes` is lane i), copies each RW field whose entry's mask has the
     /// lane's AppSel from staged set 0 or 1 to the active set; all or nothing. An empty mask changes nothing and is
-    /// accepted. Refusals 9, 8, 1 to 7, 10, 11, 13, 14.
+    /// accepted. Refusals 9, 8, 16, 1 to 7, 10, 11, 13, 14.
     apply(bank: &mut [u8], set: usize, lanes: u8) -> Answer = vcs_apply(bank.as_mut_ptr(), bank.len(), set, lanes);
 
     /// Perform: a call given as data; its answer and refusals are those of its kind.
     perform(bank: &mut [u8], call: Call) -> Answer = vcs_perform(bank.as_mut_ptr(), bank.len(), call);
 
-    /// Weight: the active number of a 12h field, in thousandths. Refusals 9, 8, 1 to 7, 10.
+    /// Weight: the active number of a 12h field, in thousandths. Refusals 9, 8, 16, 1 to 7, 10.
     weight(bank: &[u8], entry: usize, lane: usize) -> Answer = vcs_weight(bank.as_ptr(), bank.len(), entry, lane);
 }
 
 /// What a reader takes from one string at any position: the entry that begins there, or the end if no byte is left from
-/// it on. From 0 on, each time at the position that the one before gave, it takes the string's entries in order.
-/// Refusals 9, 1, 2.
+/// it on. From 0 on, each time at the position that the one before gave, it takes the string's entries in order,
+/// past the limit too. Refusals 9, 1, 2, never 16.
 #[allow(dead_code)]
 #[inline]
 pub fn take(count: usize, string: &[u8], position: usize) -> Taken {

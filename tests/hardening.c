@@ -3,9 +3,11 @@
    Each lent buffer stands in a page between two pages that can't be touched: at the page's start, at its end or anywhere in
    it. The page's other bytes are canaries. After a call both strings and all canaries are as they were, and so is every byte
    of the bank but those that an accepted call of its kind may change; a call that touches a byte outside the three pages is
-   stopped. Refusals 9, 8 and 1 to 7 come exactly when they must, and a refused answer has no other number. Most maps
+   stopped. Refusals 9, 8, 16 and 1 to 7 come exactly when they must, and a refused answer has no other number. Most maps
    are accepted or nearly so: every export and every kind of perform must accept some calls and refuse some, every refusal
-   must occur, and every ID that write takes must have an accepted write and each refusal that its entry can have.
+   must occur, and every ID that write takes must have an accepted write and each refusal that its entry can have. In either
+   string 16 entries must be accepted, and a 17th refused: a good one, one byte, and one that is refused even alone, with each
+   number that this can have; take must take one.
 
    gcc -std=c11 -Wall -Wextra -Werror -O2 -I include tests/hardening.c target/staticlib/libvcs.a -o target/hardening
    target/hardening [calls [seed]] */
@@ -31,15 +33,17 @@ static const char *const NAMES[EXPORTS] = {
     "owner", "fresh", "weight", "take",
 };
 
-/* What a refusal names, by its number, and whether count, strings and bank alone decide it; 0 stands for an accepted call. */
-enum { NOTHING, AN_ENTRY, A_LANE };
+/* What a refusal names, by its number, and whether count, strings and bank alone decide it; 0 stands for an accepted call,
+   and no call gives 15. */
+enum { NO_REFUSAL, NOTHING, AN_ENTRY, A_LANE };
 static const struct {
     int names;
     int by_lent;
 } REFUSALS[] = {
-    [1] = {AN_ENTRY, 1}, [2] = {AN_ENTRY, 1}, [3] = {AN_ENTRY, 1}, [4] = {AN_ENTRY, 1}, [5] = {AN_ENTRY, 1},
-    [6] = {AN_ENTRY, 1}, [7] = {AN_ENTRY, 1}, [8] = {NOTHING, 1},  [9] = {NOTHING, 1},  [10] = {NOTHING, 0},
-    [11] = {NOTHING, 0}, [12] = {NOTHING, 0}, [13] = {A_LANE, 0},  [14] = {A_LANE, 0},
+    [0] = {NOTHING, 0},  [1] = {AN_ENTRY, 1}, [2] = {AN_ENTRY, 1}, [3] = {AN_ENTRY, 1}, [4] = {AN_ENTRY, 1},
+    [5] = {AN_ENTRY, 1}, [6] = {AN_ENTRY, 1}, [7] = {AN_ENTRY, 1}, [8] = {NOTHING, 1},  [9] = {NOTHING, 1},
+    [10] = {NOTHING, 0}, [11] = {NOTHING, 0}, [12] = {NOTHING, 0}, [13] = {A_LANE, 0},  [14] = {A_LANE, 0},
+    [16] = {AN_ENTRY, 1},
 };
 enum { NUMBERS = sizeof REFUSALS / sizeof REFUSALS[0] };
 
@@ -47,6 +51,10 @@ static size_t seed = 1, calls = 1000000, made, accepted[EXPORTS], refused[EXPORT
 
 /* Accepted writes, and refused maps by their number, each by the ID of the entry that is named. */
 static size_t written[256], stopped[256][NUMBERS];
+
+/* By string: accepted maps with 16 entries in it; 17th entries of one byte, those with more, by the refusal that the entry
+   has alone, and those that were taken. */
+static size_t full[2], strays[2], seventeenths[2][NUMBERS], seventeenths_taken[2];
 
 /* ---- Random numbers: splitmix64 ---- */
 
@@ -195,7 +203,8 @@ static int has_step(uint8_t id)
 static void add_entry(int string, uint8_t bytes[], size_t *length, size_t *sum, int *media)
 {
     size_t a = count <= 8 ? 1 : 2;
-    uint8_t id = string == RW ? PICK(uint8_t, 2, 3, 4, 5, 6, 7, 8, 9, 10, 11, 12, 13, 14, 15, 16, 4, 7, 8, 9, 13, 0, 1, 0x13)
+    uint8_t id = string == RW ? PICK(uint8_t, 0, 1, 2, 3, 4, 5, 6, 7, 8, 9, 10, 11, 12, 13, 14, 15, 16, 0x13,
+                                     4, 7, 8, 9, 10, 13)
                               : PICK(uint8_t, 0x11, 0x12, 0x12, 0, 0x13);
     size_t size = LEAST[id] + a + (once_in(6) ? below(6) : 0);
     size_t memory = NEEDED[id] + (once_in(6) || NEEDED[id] == 0 ? below(8) : 0);
@@ -247,11 +256,11 @@ static void fill_string(uint8_t bytes[], size_t *length, size_t *sum)
     *sum += memory;
 }
 
-/* Changes one number of an entry: Length, MemoryLength, its side, or the byte where a step stands. */
+/* Changes one number of an entry: Length, MemoryLength, its side, or, more often, its step. */
 static void damage_entry(uint8_t entry[])
 {
     size_t a = count <= 8 ? 1 : 2;
-    switch (below(5)) {
+    switch (below(has_step(entry[0]) ? 8 : 4)) {
     case 0:
         entry[1]--;
         break;
@@ -264,51 +273,83 @@ static void damage_entry(uint8_t entry[])
     case 3:
         entry[3 + a] ^= 1;
         break;
-    case 4:
-        entry[LEAST[entry[0] < 0x13 ? entry[0] : 0x13] + a - 1] = PICK(uint8_t, 0, 4, 5, 255);
+    default:
+        entry[LEAST[entry[0]] + a - 1] = PICK(uint8_t, 0, 4, 5, 255);
         break;
     }
 }
 
-/* Makes a string of 0 to 130 bytes: accepted, or with the other string's entries, an entry or a byte changed, cut, longer,
-   or noise. */
-static void make_string(int string, size_t *sum, int *media, int damage)
+/* Damages a 17th entry, cuts the string after its first byte or any other, or leaves it. */
+static void spoil_entry(uint8_t bytes[], size_t start, size_t *length)
 {
-    uint8_t bytes[130] = {0};
-    size_t length = 0, chosen = 0;
-    for (size_t entries = below(PICK(size_t, 2, 8, 24, 40)); entries > 0; entries--) {
-        size_t start = length;
-        add_entry(damage && once_in(12) ? 1 - string : string, bytes, &length, sum, media);
-        chosen = length > start && once_in(3) ? start : chosen;
-    }
-    if (once_in(8)) {
-        fill_string(bytes, &length, sum);
-    }
-    size_t planned = length;
-    switch (damage ? below(10) : 10) {
+    switch (below(6)) {
     case 0:
+        *length = start + 1;
+        break;
     case 1:
-        bytes[below(length + 1)] = (uint8_t)next();
+        *length = start + 1 + below(bytes[start + 1]);
         break;
     case 2:
-        bytes[below(length + 1)] ^= (uint8_t)(1 << below(8));
+        break;
+    default:
+        damage_entry(bytes + start);
+        break;
+    }
+}
+
+/* Changes a byte or an entry, cuts the string, or makes it longer or noise: bytes past `planned` are random. */
+static void damage_string(uint8_t bytes[], size_t entry, size_t *length, size_t *planned)
+{
+    switch (below(14)) {
+    case 0:
+    case 1:
+        bytes[below(*length + 1)] = (uint8_t)next();
+        break;
+    case 2:
+        bytes[below(*length + 1)] ^= (uint8_t)(1 << below(8));
         break;
     case 3:
-        length = below(length + 1);
+        *length = below(*length + 1);
         break;
     case 4:
-        length = PICK(size_t, 119, 120, 121, 122, 130);
+        *length = PICK(size_t, 119, 120, 121, 122, 130);
         break;
     case 5:
-        length = below(131);
-        planned = 0;
+        *length = below(131);
+        *planned = 0;
         break;
-    case 6:
-    case 7:
-    case 8:
-    case 9:
-        damage_entry(bytes + chosen);
+    default:
+        damage_entry(bytes + entry);
         break;
+    }
+}
+
+/* Makes a string of 0 to 130 bytes: accepted, or damaged, also by the other string's entries, or past 16 entries. */
+static void make_string(int string, size_t *sum, int *media, int damage, int past)
+{
+    uint8_t bytes[130] = {0};
+    size_t length = 0, entries = 0, chosen = 0, seventeenth = 0;
+    for (size_t tries = past ? 60 : below(PICK(size_t, 2, 8, 24, 40)); tries > 0; tries--) {
+        size_t start = length;
+        int other = entries == VCS_ENTRY_LIMIT ? once_in(4) : damage && once_in(24);
+        if (past || entries < VCS_ENTRY_LIMIT) {
+            add_entry(other ? 1 - string : string, bytes, &length, sum, media);
+        }
+        if (length > start) {
+            chosen = once_in(3) ? start : chosen;
+            seventeenth = entries == VCS_ENTRY_LIMIT ? start : seventeenth;
+            entries++;
+        }
+    }
+    if (entries < VCS_ENTRY_LIMIT && once_in(8)) {
+        fill_string(bytes, &length, sum);
+    }
+    if (seventeenth > 0) {
+        spoil_entry(bytes, seventeenth, &length);
+    }
+    size_t planned = length;
+    if (damage) {
+        damage_string(bytes, chosen, &length, &planned);
     }
     buffer *b = &buffers[string];
     lend(b, length);
@@ -318,33 +359,89 @@ static void make_string(int string, size_t *sum, int *media, int damage)
     keep(b);
 }
 
-/* The ID of an entry of the map, or of the one that refused it: those before have passed checks 1 and 2. */
-static uint8_t id_of(size_t entry)
+/* Where an entry stands: its string, the entries before it there, and its start. */
+typedef struct {
+    size_t string, before, start;
+} spot;
+
+/* The spot of an entry of the map, of the one that refused it (those before have passed checks 1 and 2), or of the end. */
+static spot find(size_t entry)
 {
-    size_t string = RW, at = 0;
+    spot s = {RW, 0, 0};
     for (;; entry--) {
-        if (string == RW && at == buffers[RW].length) {
-            string = RO;
-            at = 0;
+        if (s.string == RW && s.start == buffers[RW].length) {
+            s = (spot){RO, 0, 0};
         }
         if (entry == 0) {
-            return buffers[string].lent[at];
+            return s;
         }
-        at += buffers[string].lent[at + 1];
+        s.before++;
+        s.start += buffers[s.string].lent[s.start + 1];
+    }
+}
+
+static uint8_t id_of(size_t entry)
+{
+    spot s = find(entry);
+    return buffers[s.string].lent[s.start];
+}
+
+/* An accepted map ends with its strings, neither of which has a 17th entry. */
+static void check_accepted(void)
+{
+    spot end = find(map.rw_count + map.ro_count);
+    if (end.string != RO || end.before != map.ro_count || end.start != buffers[RO].length) {
+        fail("load", "other counts");
+    }
+    if (map.rw_count > VCS_ENTRY_LIMIT || map.ro_count > VCS_ENTRY_LIMIT) {
+        fail("load", "a 17th entry is accepted");
+    }
+    full[RW] += map.rw_count == VCS_ENTRY_LIMIT;
+    full[RO] += map.ro_count == VCS_ENTRY_LIMIT;
+}
+
+/* A refused map is accepted up to the entry that is named, and its number is 16 exactly if that is a 17th. */
+static void check_refused(void)
+{
+    spot s = find(map.at);
+    const buffer *rw = &buffers[RW], *ro = &buffers[RO], *own = &buffers[s.string];
+    int in_rw = s.string == RW;
+    vcs_loaded before = vcs_load(count, rw->lent, in_rw ? s.start : rw->length, ro->lent, in_rw ? 0 : s.start);
+    if (before.refusal != 0 || before.rw_count + before.ro_count != map.at) {
+        fail("load", "an entry before is refused");
+    }
+    size_t others = map.at - s.before; /* The RW entries before one of RO. */
+    if (s.before > VCS_ENTRY_LIMIT || others > VCS_ENTRY_LIMIT || (map.refusal == 16) != (s.before == VCS_ENTRY_LIMIT)) {
+        fail("load", "16 of another entry, or another refusal of a 17th");
+    }
+    stopped[own->lent[s.start]][map.refusal]++;
+    size_t left = own->length - s.start;
+    if (map.refusal == 16 && left == 1) {
+        strays[s.string]++;
+    } else if (map.refusal == 16) {
+        const uint8_t *rest = own->lent + s.start;
+        vcs_loaded alone = vcs_load(count, rest, in_rw ? left : 0, rest, in_rw ? 0 : left);
+        seventeenths[s.string][alone.at == 0 && alone.refusal < NUMBERS ? alone.refusal : 0]++;
     }
 }
 
 /* The position after the last step over a string. */
 static size_t positions[2];
 
+/* One of the strings once in so many times, else neither. */
+static int string_once_in(size_t times)
+{
+    return once_in(times) ? PICK(int, RW, RO) : -1;
+}
+
 /* Another map and bank. Most banks have AppSels, and are clear or have small numbers. */
 static void make_map(void)
 {
     size_t sum = 0;
-    int media = 0, damage = once_in(4), which = (int)below(2);
+    int media = 0, damaged = string_once_in(2), past = string_once_in(6);
     count = once_in(2) ? PICK(size_t, 1, 8, 9, 15) : 1 + below(15);
-    make_string(RW, &sum, &media, damage && which == 0);
-    make_string(RO, &sum, &media, damage && which == 1);
+    make_string(RW, &sum, &media, damaged == RW, past == RW);
+    make_string(RO, &sum, &media, damaged == RO, past == RO);
     size_t apps = count;
     count = once_in(24) ? number(16) : count;
     buffer *b = &buffers[BANK];
@@ -364,8 +461,10 @@ static void make_map(void)
     keep(b);
     positions[RW] = positions[RO] = 0;
     map = vcs_load(LENT);
-    if (map.refusal < NUMBERS && REFUSALS[map.refusal].names == AN_ENTRY) {
-        stopped[id_of(map.at)][map.refusal]++;
+    if (map.refusal == 0) {
+        check_accepted();
+    } else if (map.refusal < NUMBERS && REFUSALS[map.refusal].names == AN_ENTRY) {
+        check_refused();
     }
 }
 
@@ -416,7 +515,8 @@ static int judge(size_t export, const void *answer, size_t size)
     memcpy(numbers, answer, size);
     size_t refusal = numbers[0], at = numbers[1];
     size_t expected = refused_by_lent(export < LOAD || export == FRESH || export == WEIGHT);
-    if (refusal >= NUMBERS || (expected != 0 ? refusal != expected : REFUSALS[refusal].by_lent)) {
+    if (refusal >= NUMBERS || REFUSALS[refusal].names == NO_REFUSAL ||
+        (expected != 0 ? refusal != expected : REFUSALS[refusal].by_lent)) {
         fail(NAMES[export], "another refusal");
     }
     int names = REFUSALS[refusal].names;
@@ -435,12 +535,14 @@ static int judge(size_t export, const void *answer, size_t size)
 
 #define JUDGE(type, call) judge(export, &(type[1]){call}, sizeof(type))
 
-/* The reader's step has its own answer. */
+/* The reader's step has its own answer, and no limit of entries: where the load has refused a 17th, it is often made. */
 static void take(void)
 {
-    size_t string = below(2);
+    int over = map.refusal == 16 && once_in(2);
+    spot s = over ? find(map.at) : (spot){below(2), 0, 0};
+    size_t string = s.string;
     const buffer *b = &buffers[string];
-    size_t position = once_in(2) ? positions[string] : number(b->length);
+    size_t position = over ? s.start : once_in(2) ? positions[string] : number(b->length);
     vcs_taken answer = vcs_take(count, b->lent, b->length, position);
     int nine = count < 1 || count > 15 || b->length > LONGEST;
     if (answer.refusal > 9 || (answer.refusal > 2 && answer.refusal < 9) || (answer.refusal == 9) != nine) {
@@ -456,6 +558,8 @@ static void take(void)
     } else if (answer.start != position || answer.length < 4 || answer.length > b->length - position ||
                answer.position != position + answer.length) {
         fail("take", "an entry outside its string");
+    } else {
+        seventeenths_taken[string] += over;
     }
     positions[string] = answer.position;
     (answer.refusal == 0 ? accepted : refused)[TAKE]++;
@@ -513,6 +617,54 @@ static void call_one(size_t export)
     }
 }
 
+/* ---- What must have occurred ---- */
+
+static void demand_calls(void)
+{
+    for (size_t i = 0; i < EXPORTS; i++) {
+        printf("%-20s%10zu accepted%10zu refused\n", NAMES[i], accepted[i], refused[i]);
+        if (accepted[i] == 0 || refused[i] == 0) {
+            fail(NAMES[i], "never accepted, or never refused");
+        }
+    }
+    for (size_t i = 1; i < NUMBERS; i++) {
+        if (REFUSALS[i].names != NO_REFUSAL && refusals[i] == 0) {
+            printf("hardening: refusal %zu has not occurred\n", i);
+            exit(1);
+        }
+    }
+}
+
+static void demand_ids(void)
+{
+    for (uint8_t id = 0x02; id <= 0x10; id++) {
+        for (size_t i = 1; i < NUMBERS; i++) {
+            int can_fail = i == 5 ? has_step(id) : i == 6 ? id <= 0x08 : REFUSALS[i].names == AN_ENTRY;
+            if (written[id] == 0 || (can_fail && stopped[id][i] == 0)) {
+                printf("hardening: no write of %02Xh, or no refusal %zu\n", id, i);
+                exit(1);
+            }
+        }
+    }
+}
+
+static void demand_limit(void)
+{
+    for (int string = RW; string <= RO; string++) {
+        const char *name = string == RW ? "RW" : "RO";
+        if (full[string] == 0 || strays[string] == 0 || seventeenths_taken[string] == 0) {
+            printf("hardening: no 16 entries in %s, no byte after them, or no 17th taken\n", name);
+            exit(1);
+        }
+        for (size_t i = 0; i <= 5; i++) { /* 6 and 7 need an entry before. */
+            if (seventeenths[string][i] == 0) {
+                printf("hardening: no 17th entry in %s that has refusal %zu alone\n", name, i);
+                exit(1);
+            }
+        }
+    }
+}
+
 int main(int words, char **word)
 {
     calls = words > 1 ? strtoull(word[1], NULL, 10) : calls;
@@ -521,32 +673,15 @@ int main(int words, char **word)
     make_pages();
     while (made < calls) {
         make_map();
-        for (size_t more = 1 + below(64); more > 0 && made < calls; more--) {
+        /* A refused map gets few calls: all are refused alike. */
+        for (size_t more = 1 + below(map.refusal == 0 ? 64 : 8); more > 0 && made < calls; more--) {
             made++;
             call_one(below(EXPORTS + 1));
         }
     }
-    for (size_t i = 0; i < EXPORTS; i++) {
-        printf("%-20s%10zu accepted%10zu refused\n", NAMES[i], accepted[i], refused[i]);
-        if (accepted[i] == 0 || refused[i] == 0) {
-            fail(NAMES[i], "never accepted, or never refused");
-        }
-    }
-    for (size_t i = 1; i < NUMBERS; i++) {
-        if (refusals[i] == 0) {
-            printf("hardening: refusal %zu has not occurred\n", i);
-            exit(1);
-        }
-    }
-    for (uint8_t id = 0x02; id <= 0x10; id++) {
-        for (size_t i = 1; i <= 7; i++) {
-            int can_fail = i == 5 ? has_step(id) : i == 6 ? id <= 0x08 : 1;
-            if (written[id] == 0 || (can_fail && stopped[id][i] == 0)) {
-                printf("hardening: no write of %02Xh, or no refusal %zu\n", id, i);
-                exit(1);
-            }
-        }
-    }
+    demand_calls();
+    demand_ids();
+    demand_limit();
     printf("hardening: %zu calls, seed %zu\n", made, seed);
     return 0;
 }

@@ -1,4 +1,5 @@
-/* Checks the C interface: the layout that include/vcs.h promises, and answers worked out by hand from document 01 and note 1.
+/* Checks the C interface: the layout that include/vcs.h promises, and answers worked out by hand from document 01 and
+   notes 1 and 7 of document 02.
 
    gcc -std=c11 -Wall -Wextra -Werror -I include tests/interface.c target/staticlib/libvcs.a -o target/interface */
 #include <stdio.h>
@@ -62,7 +63,8 @@ AT(vcs_taken, start, 2);
 AT(vcs_taken, length, 3);
 AT(vcs_taken, position, 4);
 
-/* The bank as document 01 lays it out. */
+/* The limit of note 7, and the bank as document 01 lays it out. */
+_Static_assert(VCS_ENTRY_LIMIT == 16, "a string has at most 16 entries");
 _Static_assert(VCS_BANK_SIZE == 784, "a bank has 784 bytes");
 _Static_assert(VCS_SET_SIZE == 256, "a set has 256 bytes");
 _Static_assert(VCS_SET_START(0) == 0 && VCS_SET_START(1) == 256 && VCS_SET_START(2) == 512, "the sets");
@@ -1097,6 +1099,174 @@ static void takes(void)
     take("an RO parameter is no matter", (map){4, BYTES(0x11, 0x05, 0x00, 0x00, 0x00), NONE}, 0, ENTRY(0, 5, 5));
 }
 
+/* Up to 17 entries of 02h in RW, at offsets 0 to 16, and of 12h in RO; made anew, then lent from their first byte on. */
+enum { RW_ENTRY = 5, RO_ENTRY = 7, FULL_RW = VCS_ENTRY_LIMIT * RW_ENTRY, FULL_RO = VCS_ENTRY_LIMIT * RO_ENTRY };
+static uint8_t rw_bytes[FULL_RW + RW_ENTRY], ro_bytes[FULL_RO + RO_ENTRY];
+
+static map many(size_t rw_length, size_t ro_length)
+{
+    for (int i = 0; i <= VCS_ENTRY_LIMIT; i++) {
+        memcpy(rw_bytes + i * RW_ENTRY, (const uint8_t[]){0x02, 0x05, 0x0F, 0x01, 0x00}, RW_ENTRY);
+        memcpy(ro_bytes + i * RO_ENTRY, (const uint8_t[]){0x12, 0x07, 0x0F, 0x08, 0x00, 0x00, 0x00}, RO_ENTRY);
+    }
+    return (map){4, rw_bytes, rw_length, ro_bytes, ro_length};
+}
+
+static void full_strings(void)
+{
+    map m = many(FULL_RW, FULL_RO);
+    load("16 and 16 entries", m, NUMBERS(0, 0, 16, 16, 16, 144));
+    entry("entry 15, the last of RW", m, 15, NUMBERS(0, 0, 0, 75, 5, 15));
+    entry("entry 16, the first of RO", m, 16, NUMBERS(0, 0, 1, 0, 7, 16));
+    entry("entry 31, the last of RO", m, 31, NUMBERS(0, 0, 1, 105, 7, 136));
+    entry("entry 32", m, 32, REFUSED(10, 0));
+    place("entry 15, lane 8", m, 1, 15, 0, 8, NUMBERS(0, 0, 15, 7));
+    place("entry 31, lane 8", m, 2, 31, 0, 8, NUMBERS(0, 0, 143, 0));
+    owner("entry 15, lane 8", m, 0, 15, 7, NUMBERS(0, 0, 0, 15, 0, 8));
+    owner("entry 31, lane 8", m, 2, 143, 0, NUMBERS(0, 0, 0, 31, 0, 8));
+    fill(0xFF);
+    memset(wanted, 0, VCS_BANK_SIZE);
+    fresh("16 and 16 entries", m, NUMBERS(0, 0, 16, 16, 16, 144));
+    wanted[15] = 0x80;
+    store("entry 15, lane 8", m, 0, 15, 0, 8, 1, YES);
+    wanted[VCS_APP_SEL_AT(0, 8)] = 4;
+    choose("AppSel 4, lane 8", m, 0, 8, 4, YES);
+    wanted[ACTIVE + 15] = 0x80;
+    apply("entry 15, lane 8", m, 0, 0x80, YES);
+    fetch("entry 15, applied", m, 2, 15, 0, 8, NUMBER(1));
+    wanted[SET_1 + 15] = 0xA5;
+    store_byte("entry 15, set 1", m, 1, 15, 0xA5, YES);
+    wanted[ACTIVE + 143] = 0xF2;
+    publish("entry 31, lane 8", m, 31, 0, 8, -14, YES);
+    fetch_byte("entry 31, lane 8", m, 2, 143, NUMBER(0xF2));
+    weigh("entry 31, lane 8", m, 31, 8, NUMBER(-140));
+    vcs_call call = of_kind(2);
+    call.set = 2;
+    call.entry = 31;
+    call.part = 0;
+    call.lane = 8;
+    perform("read of entry 31, lane 8", m, call, NUMBER(-14));
+}
+
+/* The name of a check: a call, and what it is given. */
+static const char *given(const char *call, const char *name)
+{
+    static char text[100];
+    snprintf(text, sizeof text, "%s, %s", call, name);
+    return text;
+}
+
+/* Every call that loads refuses a map alike, perform with the largest numbers, and keeps the bank. */
+static void refused_by_all(const char *name, map m, const size_t expected[6])
+{
+    load(given("load", name), m, expected);
+    entry(given("entry", name), m, 0, expected);
+    place(given("place", name), m, 0, 0, 0, 1, expected);
+    owner(given("owner", name), m, 0, 0, 0, expected);
+    fresh(given("fresh", name), m, expected);
+    choose(given("select", name), m, 0, 1, 1, expected);
+    store(given("write", name), m, 0, 0, 0, 1, 0, expected);
+    fetch(given("read", name), m, 0, 0, 0, 1, expected);
+    publish(given("publish", name), m, 16, 0, 1, 0, expected);
+    store_byte(given("byte write", name), m, 0, 0, 0, expected);
+    fetch_byte(given("byte read", name), m, 0, 0, expected);
+    apply(given("apply", name), m, 0, 0x00, expected);
+    weigh(given("weight", name), m, 16, 1, expected);
+    for (size_t kind = 0; kind <= 7; kind++) {
+        perform(given("perform", name), m, of_kind(kind), expected);
+    }
+}
+
+/* The last entry of one string is a 17th; without the string's first entry, it is refused with another number. */
+static void seventeenth(const char *name, map m, size_t number)
+{
+    load(name, m, REFUSED(16, 16));
+    if (m.rw_length > 0) {
+        m.rw += RW_ENTRY;
+        m.rw_length -= RW_ENTRY;
+    } else {
+        m.ro += RO_ENTRY;
+        m.ro_length -= RO_ENTRY;
+    }
+    load(name, m, REFUSED(number, 15));
+}
+
+static void limits(void)
+{
+    fill(0xFF);
+    refused_by_all("a 17th RW entry", many(FULL_RW + RW_ENTRY, FULL_RO), REFUSED(16, 16));
+    refused_by_all("a 17th RO entry", many(FULL_RW, FULL_RO + RO_ENTRY), REFUSED(16, 32));
+    refused_by_all("a 17th RO entry after 3", many(3 * RW_ENTRY, FULL_RO + RO_ENTRY), REFUSED(16, 19));
+    refused_by_all("a 17th RO entry alone", many(0, FULL_RO + RO_ENTRY), REFUSED(16, 16));
+    refused_by_all("a 17th entry of each", many(FULL_RW + RW_ENTRY, FULL_RO + RO_ENTRY), REFUSED(16, 16));
+    refused_by_all("one byte after 16 RW entries", many(FULL_RW + 1, FULL_RO), REFUSED(16, 16));
+    refused_by_all("one byte after 16 RO entries", many(FULL_RW, FULL_RO + 1), REFUSED(16, 32));
+    refused_by_all("one byte after 15 RW entries", many(FULL_RW - RW_ENTRY + 1, FULL_RO), REFUSED(1, 15));
+    refused_by_all("one byte after 15 RO entries", many(FULL_RW, FULL_RO - RO_ENTRY + 1), REFUSED(1, 31));
+    take("a 17th entry is taken", many(FULL_RW + RW_ENTRY, 0), FULL_RW, ENTRY(80, 5, 85));
+    take("the end after 17", many(FULL_RW + RW_ENTRY, 0), FULL_RW + RW_ENTRY, END(85));
+    take("one byte after 16 entries", many(FULL_RW + 1, 0), FULL_RW, STAYS(1, 80));
+}
+
+/* What stands beside 16 in the order of refusals. */
+static void limit_order(void)
+{
+    fill(0xFF);
+    seventeenth("16 before 1, one byte", many(FULL_RW + 1, 0), 1);
+    map m = many(FULL_RW + RW_ENTRY, 0);
+    rw_bytes[FULL_RW + 1] = 6;
+    seventeenth("16 before 1, Length one over", m, 1);
+    rw_bytes[FULL_RW + 1] = 0;
+    seventeenth("16 before 2, Length 0", m, 2);
+    m = many(FULL_RW + RW_ENTRY, 0);
+    rw_bytes[FULL_RW] = 0x11;
+    seventeenth("16 before 3, 11h in RW", m, 3);
+    rw_bytes[FULL_RW] = 0x03;
+    seventeenth("16 before 4, 03h of 1 byte", m, 4);
+    m = many(0, FULL_RO + RO_ENTRY);
+    ro_bytes[FULL_RO + 6] = 4;
+    seventeenth("16 before 5, step 4", m, 5);
+    m = many(FULL_RW + RW_ENTRY, 0);
+    rw_bytes[FULL_RW - 1] = 1;
+    seventeenth("16 before 6, after a media side", m, 6);
+    m = many(FULL_RW + RW_ENTRY, 0);
+    rw_bytes[FULL_RW + 3] = 255;
+    seventeenth("16 before 7, 255 bytes more", m, 7);
+
+    load("1 in RW before 16 in RO", many(3 * RW_ENTRY + 1, FULL_RO + RO_ENTRY), REFUSED(1, 3));
+    load("16 in RW before 1 in RO", many(FULL_RW + RW_ENTRY, 1), REFUSED(16, 16));
+    m = many(FULL_RW + RW_ENTRY, 0);
+    entry("16 before 10", m, 99, REFUSED(16, 16));
+    publish("16 before 11", m, 0, 0, 1, 0, REFUSED(16, 16));
+    choose("16 before 12", m, 0, 1, 5, REFUSED(16, 16));
+    apply("16 before 13", m, 0, 0xFF, REFUSED(16, 16));
+    LENDING(VCS_BANK_SIZE - 1, fresh("8 before 16", m, REFUSED(8, 0)));
+    m.count = 16;
+    load("9 before 16", m, REFUSED(9, 0));
+    m = many(FULL_RW + RW_ENTRY, 0);
+    rw_bytes[FULL_RW - RW_ENTRY + 1] = 0;
+    load("2 in the 16th entry, before a 17th", m, REFUSED(2, 15));
+}
+
+/* As many entries of 00h, with nothing reserved, as 120 bytes hold: 30 with A 1, 24 with A 2. */
+static void spaces(void)
+{
+    for (size_t a = 1; a <= 2; a++) {
+        uint8_t bytes[120] = {0};
+        size_t count = a == 1 ? 8 : 9, size = 3 + a, full = VCS_ENTRY_LIMIT * size;
+        for (size_t i = 0; i < sizeof bytes; i += size) {
+            bytes[i + 1] = (uint8_t)size;
+        }
+        map m = {count, bytes, sizeof bytes, NONE};
+        load("16 and 16 spaces", (map){count, bytes, full, bytes, full}, NUMBERS(0, 0, 16, 16, 0, 0));
+        load("120 bytes of spaces in RW", m, REFUSED(16, 16));
+        load("120 bytes of spaces in RO", (map){count, bytes, full, bytes, sizeof bytes}, REFUSED(16, 32));
+        for (size_t at = 0; at < sizeof bytes; at += size) {
+            take("a space", m, at, ENTRY(at, size, at + size));
+        }
+    }
+}
+
 int main(void)
 {
     loads();
@@ -1116,6 +1286,10 @@ int main(void)
     performs();
     weights();
     takes();
+    full_strings();
+    limits();
+    limit_order();
+    spaces();
     printf("interface: %d checks\n", checks);
     return 0;
 }

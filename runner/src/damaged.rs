@@ -1,22 +1,49 @@
-//! Maps with faults: each refusal at each kind of entry, faults at the exact boundary, several at once, and noise.
+//! Maps with faults: each refusal at each kind of entry, faults at the exact boundary, several at once, a 17th entry, and
+//! noise.
 
 use crate::random::Random;
 use crate::shape::{self, shape, NUMERIC, RW_OPAQUE};
-use crate::strings::{good_entry, high_opaque, Flat, Strings, LARGEST, LONGEST, RO, RW};
-use crate::valid::{good_count, valid};
+use crate::strings::{good_entry, high_opaque, Flat, Strings, LARGEST, LONGEST, MOST_ENTRIES, RO, RW};
+use crate::valid::{fill_entries, good_count, valid};
 
 /// A valid map with one fault, or with several in one entry or in many.
 pub fn damaged(random: &Random) -> Flat {
+    spoilt(random, valid(random), random.pick(&[1, 1, 1, 2, 4]))
+}
+
+/// A map with a 17th entry in a string or in both; by itself, or with faults in it, before it, behind it or in the other
+/// string.
+pub fn crowded(random: &Random) -> Flat {
     let mut strings = valid(random);
-    let mut string = random.pick(&[RW, RO]);
-    let mut index = target(random, &mut strings, string);
-    for _ in 0..random.pick(&[1, 1, 1, 2, 4]) {
-        index = index.min(strings.entries[string].len() - 1);
-        damage(random, &mut strings, string, index);
-        if random.once_in(2) {
+    for &string in random.pick(&[&[RW][..], &[RO], &[RO], &[RW, RO]]) {
+        crowd(random, &mut strings, string);
+    }
+    spoilt(random, strings, random.pick(&[0, 1, 1, 2]))
+}
+
+/// A string of 16 entries, a 17th of any ID, and behind it none, some, or as many as 120 bytes hold.
+fn crowd(random: &Random, strings: &mut Strings, string: usize) {
+    strings.entries[string].clear();
+    let id = any_id(random, strings, string);
+    let beyond = good_entry(random, strings.count, id, random.once_in(4));
+    let room = LONGEST - beyond.len();
+    let most = room / strings.least() - MOST_ENTRIES;
+    let behind = random.pick(&[0, 0, 1, random.below(most + 1), most]);
+    fill_entries(random, strings, string, MOST_ENTRIES, room - behind * strings.least());
+    strings.entries[string].push(beyond);
+    fill_entries(random, strings, string, MOST_ENTRIES + 1 + behind, LONGEST);
+}
+
+/// The map with this many faults; now and then one of the caller's beside them.
+fn spoilt(random: &Random, mut strings: Strings, faults: usize) -> Flat {
+    let (mut string, mut index) = (RW, 0);
+    for fault in 0..faults {
+        if fault == 0 || random.once_in(2) {
             string = random.pick(&[RW, RO]);
             index = target(random, &mut strings, string);
         }
+        index = index.min(strings.entries[string].len() - 1);
+        damage(random, &mut strings, string, index);
     }
     let mut flat = strings.flat();
     if random.once_in(12) {
@@ -25,15 +52,24 @@ pub fn damaged(random: &Random) -> Flat {
     flat
 }
 
-/// The place of an entry of a kind picked anew; it is inserted where the string has none.
-fn target(random: &Random, strings: &mut Strings, string: usize) -> usize {
-    let id = match random.below(12) {
+/// An ID of any kind, most often one that may stand in the string.
+fn any_id(random: &Random, strings: &Strings, string: usize) -> u8 {
+    match random.below(12) {
         0..=5 => random.pick(strings.table[string]),
         6 => 0x00,
         7 if string == RW => RW_OPAQUE,
         8 | 9 => strings.wrong_id(random, string),
         _ => high_opaque(random),
-    };
+    }
+}
+
+/// The place of an entry of a kind picked anew, which is inserted where the string has none; in a string of more than 16 also
+/// that of the 16th or 17th.
+fn target(random: &Random, strings: &mut Strings, string: usize) -> usize {
+    if strings.entries[string].len() > MOST_ENTRIES && random.once_in(2) {
+        return random.pick(&[MOST_ENTRIES - 1, MOST_ENTRIES, MOST_ENTRIES]);
+    }
+    let id = any_id(random, strings, string);
     let found = strings.entries[string].iter().position(|entry| entry[0] == id);
     found.unwrap_or_else(|| {
         let index = random.below(strings.entries[string].len() + 1);
@@ -42,11 +78,12 @@ fn target(random: &Random, strings: &mut Strings, string: usize) -> usize {
     })
 }
 
-/// Inserts an entry; others leave where the string would pass 120 bytes. Answers the entry's place.
+/// Inserts an entry; others leave where the string would pass 120 bytes or gain a 17th entry. Answers the entry's place.
 fn insert(strings: &mut Strings, string: usize, index: usize, entry: Vec<u8>) -> usize {
     let mut index = index;
+    let most = strings.entries[string].len().max(MOST_ENTRIES);
     strings.entries[string].insert(index, entry);
-    while strings.size(string) > LONGEST && strings.entries[string].len() > 1 {
+    while strings.entries[string].len() > most || strings.size(string) > LONGEST && strings.entries[string].len() > 1 {
         let last = strings.entries[string].len() - 1;
         if index < last {
             strings.entries[string].pop();
@@ -158,9 +195,7 @@ fn host_after_media(random: &Random, strings: &mut Strings, index: usize) {
 fn sum_at_limit(random: &Random, strings: &mut Strings, string: usize, index: usize) {
     let mut index = index;
     if strings.sum_before(string, index) < 2 {
-        let mut entry = vec![0; strings.memory_at() + 1];
-        entry[1] = entry.len() as u8;
-        entry[strings.memory_at()] = 255;
+        let entry = strings.small_entry(0x00, 255);
         insert(strings, RW, 0, entry);
         index = (index + usize::from(string == RW)).min(strings.entries[string].len() - 1);
     }

@@ -7,6 +7,10 @@ pub use vcs::{Answer as Answered, Call as FlatCall, *};
 
 use crate::refusals::{named, Named};
 use crate::report::Answer;
+use crate::strings::MOST_ENTRIES;
+
+// The limit that include/vcs.rs gives is the one that the generators aim at.
+const _: () = assert!(ENTRY_LIMIT == MOST_ENTRIES);
 
 /// The AppSels of both staged sets, in a bank that has them.
 pub fn app_sels(bank: &mut [u8]) -> &mut [u8] {

@@ -1,5 +1,5 @@
-//! Maps and values whose answers are known from document 01 and note 1 of document 02 alone: examples, the agreement's
-//! appendices, the limits of each check.
+//! Maps and values whose answers are known from document 01 and the notes 1 and 7 of document 02 alone: examples, the
+//! agreement's appendices, the limits of each check.
 
 use crate::calls::{self, bank};
 use crate::case::Case;
@@ -22,20 +22,22 @@ pub const INPUTS: [&[u8]; 4] = [
     include_bytes!("../../examples/linear.map"),
 ];
 
-/// RW and RO with every ID of the table, every code in the masks, a gap, and a 12h entry of each step; for count 4. Of 09h,
-/// 0Ah and the two 0Dh, one range is whole; the others are across 0, above 0 and below 0.
+/// 16 RW entries and RO, with every ID of the table, every code in the masks, a gap after 10h and one between the RO fields,
+/// and a 12h entry of each step; for count 4. Of 09h, 0Ah and the two 0Dh, one range is whole; the others are across 0,
+/// above 0 and below 0.
 pub const WHOLE: [&str; 2] = [
     "02 05 0F 01 00 03 05 0F 02 00 04 07 0F 04 00 FF FF 05 05 0F 01 00 06 05 0F 01 00 \
-     07 08 0F 08 00 00 FF FF 08 07 0F 04 00 FF FF 0F 05 0F 08 00 10 05 0F 08 00 00 04 00 02 \
+     07 08 0F 08 00 00 FF FF 08 07 0F 04 00 FF FF 0F 05 0F 08 00 10 05 0F 0A 00 \
      09 09 0F 08 00 00 F8 06 01 0A 09 0F 08 00 01 03 14 04 0B 05 0F 01 00 0C 05 0F 01 00 \
      0D 09 0F 08 00 FF FD E2 00 0D 09 0F 08 00 00 7F 80 03 0E 07 0F 04 00 FF FF",
-    "11 05 0F 10 00 12 07 0F 08 00 00 00 12 07 0F 08 00 00 01 12 07 0F 08 00 00 02 12 07 0F 08 00 00 03",
+    "11 05 0F 10 00 00 04 00 02 \
+     12 07 0F 08 00 00 00 12 07 0F 08 00 00 01 12 07 0F 08 00 00 02 12 07 0F 08 00 00 03",
 ];
 
 /// The same without the IDs of note 1.
 const BASE: [&str; 2] = [
     "02 05 0F 01 00 03 05 0F 02 00 04 07 0F 04 00 FF FF 05 05 0F 01 00 06 05 0F 01 00 \
-     07 08 0F 08 00 00 FF FF 08 07 0F 04 00 FF FF 0F 05 0F 08 00 10 05 0F 08 00 00 04 00 02",
+     07 08 0F 08 00 00 FF FF 08 07 0F 04 00 FF FF 0F 05 0F 08 00 10 05 0F 0A 00",
     WHOLE[1],
 ];
 
@@ -64,8 +66,9 @@ pub fn compare(report: &mut Report) {
             expect("one byte left", count, &[id], &[], refused(1, 0));
         }
     }
-    for (name, count, rw, ro, known) in settings() {
-        expect(name, count, &hex(rw), &hex(ro), known);
+    for Setting { name, map, known } in settings() {
+        let Case { count, rw, ro } = map.case();
+        expect(name, count, rw, ro, known);
     }
     for (name, rw, value, refusal) in values() {
         let case = Case { count: 4, rw: &hex(rw), ro: &[] };
@@ -75,14 +78,30 @@ pub fn compare(report: &mut Report) {
     }
 }
 
-/// The settings' maps, to call on with a bank.
-pub fn maps() -> Vec<Flat> {
-    settings().iter().map(|&(_, count, rw, ro, _)| Flat { count, strings: [hex(rw), hex(ro)] }).collect()
+/// A map, and the load's answer.
+pub struct Setting {
+    name: &'static str,
+    pub map: Flat,
+    pub known: Loaded,
+}
+
+impl Setting {
+    fn new(name: &'static str, count: usize, rw: Vec<u8>, ro: Vec<u8>, known: Loaded) -> Setting {
+        Setting { name, map: Flat { count, strings: [rw, ro] }, known }
+    }
+}
+
+pub fn settings() -> Vec<Setting> {
+    let setting = |&(name, count, rw, ro, known): &InHex| Setting::new(name, count, hex(rw), hex(ro), known);
+    few_entries().iter().map(setting).chain(sixteen_entries()).collect()
 }
 
 /// Name, count, RW and RO in hex, answer.
+type InHex = (&'static str, usize, &'static str, &'static str, Loaded);
+
+/// The checks 9 and 1 to 7.
 #[rustfmt::skip]
-fn settings() -> Vec<(&'static str, usize, &'static str, &'static str, Loaded)> {
+fn few_entries() -> Vec<InHex> {
     vec![
         ("P9, MemoryLength 3", 4, "04 07 01 03 00 00 04", "", refused(4, 0)),
         ("P9, MemoryLength 4", 4, "04 07 01 04 00 00 04", "", accepted(1, 0, 4, 4)),
@@ -120,8 +139,8 @@ fn settings() -> Vec<(&'static str, usize, &'static str, &'static str, Loaded)> 
         ("media after media", 4, "0F 05 00 08 01 02 05 00 01 01", "", accepted(2, 0, 9, 9)),
         ("flag bits 1 to 7 are ignored", 4, "0F 05 00 08 FE 02 05 00 01 00", "", accepted(2, 0, 9, 9)),
         ("media side in RO", 4, "", "11 05 00 10 01 12 07 00 08 00 00 00", accepted(0, 2, 0, 24)),
-        ("every ID of the table", 4, WHOLE[0], WHOLE[1], accepted(17, 5, 77, 125)),
-        ("every ID of the table but note 1's", 4, BASE[0], BASE[1], accepted(10, 5, 39, 87)),
+        ("every ID of the table", 4, WHOLE[0], WHOLE[1], accepted(16, 6, 77, 127)),
+        ("every ID of the table but note 1's", 4, BASE[0], BASE[1], accepted(9, 6, 39, 89)),
         ("P10, P11 and 07h without 12", 9,
          "04 08 01 FF 04 00 1F FF 08 08 01 FF 05 00 FF FF 07 09 01 FF 08 00 FF EF FF", "", accepted(3, 0, 17, 17)),
         ("09h", 4, "09 09 0F 08 00 00 F8 06 01", "", accepted(1, 0, 8, 8)),
@@ -182,6 +201,67 @@ fn settings() -> Vec<(&'static str, usize, &'static str, &'static str, Loaded)> 
           0D 09 00 08 00 00 00 00 01 0E 07 00 04 00 00 00", "", accepted(7, 0, 31, 31)),
         ("host-side 0Dh after a media 0Dh", 4,
          "0D 09 00 08 01 00 00 00 01 0D 09 00 08 00 00 00 00 01", "", accepted(2, 0, 16, 16)),
+    ]
+}
+
+/// Note 7: 15 to 17 entries and more, alike but for the one that a setting is about.
+#[rustfmt::skip]
+fn sixteen_entries() -> Vec<Setting> {
+    // An entry that reserves a byte, with one mask byte and with two.
+    const SMALL: &str = "13 04 0F 01 ";
+    const WIDE: &str = "13 05 01 FF 01 ";
+    let many = |entries: usize| hex(&SMALL.repeat(entries));
+    let then = |entries: usize, rest: &str| [many(entries), hex(rest)].concat();
+    let wide = |entries: usize| hex(&WIDE.repeat(entries));
+    let four = |name, rw, ro, known| Setting::new(name, 4, rw, ro, known);
+    let rw_alone = |name, rw, known| four(name, rw, Vec::new(), known);
+    vec![
+        rw_alone("16 RW entries", many(16), accepted(16, 0, 16, 16)),
+        four("16 RO entries", many(0), many(16), accepted(0, 16, 0, 16)),
+        four("16 and 16 entries", many(16), many(16), accepted(16, 16, 16, 32)),
+        rw_alone("17 RW entries", many(17), refused(16, 16)),
+        four("17 RO entries after none", many(0), many(17), refused(16, 16)),
+        four("17 RO entries after 5", many(5), many(17), refused(16, 21)),
+        four("17 RO entries after 16", many(16), many(17), refused(16, 32)),
+        four("17 and 17 entries", many(17), many(17), refused(16, 16)),
+        rw_alone("30 RW entries", many(30), refused(16, 16)),
+        four("30 RO entries after 16", many(16), many(30), refused(16, 32)),
+        rw_alone("one byte after 15 RW entries", then(15, "02"), refused(1, 15)),
+        rw_alone("one byte after 16 RW entries", then(16, "02"), refused(16, 16)),
+        four("one byte after 15 RO entries", many(3), then(15, "02"), refused(1, 18)),
+        four("one byte after 16 RO entries", many(3), then(16, "02"), refused(16, 19)),
+        rw_alone("16 before 1", then(16, "13 05 0F 01"), refused(16, 16)),
+        rw_alone("16 before 2", then(16, "02 04 0F 01"), refused(16, 16)),
+        rw_alone("16 before 2, Length 0", then(16, "02 00"), refused(16, 16)),
+        rw_alone("16 before 3", then(16, "11 05 0F 10 00"), refused(16, 16)),
+        four("16 before 3 in RO", many(1), then(16, "02 05 0F 01 00"), refused(16, 17)),
+        rw_alone("16 before 4", then(16, "04 07 0F 03 00 FF FF"), refused(16, 16)),
+        rw_alone("16 before 5", then(16, "09 09 0F 08 00 00 F8 06 00"), refused(16, 16)),
+        four("16 before 5 in RO", many(1), then(16, "12 07 0F 08 00 00 04"), refused(16, 17)),
+        rw_alone("6 in a 16th entry", then(14, "0F 05 0F 08 01 02 05 0F 01 00 13 04 0F 01"), refused(6, 15)),
+        rw_alone("16 before 6", then(15, "0F 05 0F 08 01 02 05 0F 01 00"), refused(16, 16)),
+        rw_alone("7 in a 16th entry", then(15, "00 04 00 F2 13 04 0F 01"), refused(7, 15)),
+        rw_alone("256 by 16 entries", then(15, "00 04 00 F1"), accepted(16, 0, 256, 256)),
+        rw_alone("16 before 7", then(15, "00 04 00 F1 13 04 0F 01"), refused(16, 16)),
+        rw_alone("an earlier entry's fault", [then(5, "02 05 0F 00 00"), many(11)].concat(), refused(4, 5)),
+        rw_alone("a 16th entry's fault", then(15, "02 05 0F 00 00 13 04 0F 01"), refused(4, 15)),
+        four("RW's fault before a 17th RO entry", then(15, "02 05 0F 00 00"), many(17), refused(4, 15)),
+        four("a 17th RW entry before RO's fault", many(17), hex("02"), refused(16, 16)),
+        Setting::new("9 before 16, count 0", 0, many(17), many(17), refused(9, 0)),
+        Setting::new("9 before 16, count 16", 16, wide(17), wide(17), refused(9, 0)),
+        rw_alone("9 before 16, 121 bytes", then(30, "13"), refused(9, 0)),
+        Setting::new("16 and 16 entries, two mask bytes", 9, wide(16), wide(16), accepted(16, 16, 16, 32)),
+        Setting::new("17 RW entries, two mask bytes", 9, wide(17), wide(0), refused(16, 16)),
+        Setting::new("17 RO entries, two mask bytes", 9, wide(16), wide(17), refused(16, 32)),
+        Setting::new("24 entries, two mask bytes", 9, wide(2), wide(24), refused(16, 18)),
+        rw_alone("surplus bytes are no 17th entry", then(15, "13 08 0F 01 13 04 0F 01"), accepted(16, 0, 16, 16)),
+        rw_alone("a byte after surplus bytes is", then(15, "13 08 0F 01 13 04 0F 01 13"), refused(16, 16)),
+        rw_alone("17 entries that reserve nothing", hex(&"00 04 00 00 ".repeat(17)), refused(16, 16)),
+        rw_alone("17 01h entries", hex(&"01 04 00 00 ".repeat(17)), refused(16, 16)),
+        rw_alone("17 02h entries", hex(&"02 05 0F 01 00 ".repeat(17)), refused(16, 16)),
+        four("16 12h entries", many(0), hex(&"12 07 0F 08 00 00 00 ".repeat(16)), accepted(0, 16, 0, 128)),
+        four("17 12h entries", many(0), hex(&"12 07 0F 08 00 00 00 ".repeat(17)), refused(16, 16)),
+        four("a 17th after every ID of the table", [hex(WHOLE[0]), many(1)].concat(), hex(WHOLE[1]), refused(16, 16)),
     ]
 }
 

@@ -27,7 +27,7 @@ use report::Report;
 use strings::{Flat, RW};
 
 /// Generated maps, beside the fixed ones and the sweep.
-const MAPS: u64 = 200_000;
+const MAPS: u64 = 225_000;
 
 /// Accepted maps, and as many damaged ones, on which every field and bit is asked for.
 const WHOLE_MAPS: u64 = 300;
@@ -84,11 +84,12 @@ fn compare() -> bool {
 
 /// A map from one of the generators.
 fn any_map(random: &Random) -> Flat {
-    match random.below(16) {
+    match random.below(18) {
         0..=4 => valid::valid(random).flat(),
         5..=10 => damaged::damaged(random),
         11 | 12 => damaged::changed(random),
         13 | 14 => damaged::bordering(random),
+        15 | 16 => damaged::crowded(random),
         _ => damaged::noise(random),
     }
 }

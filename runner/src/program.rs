@@ -9,7 +9,7 @@ use std::time::Duration;
 use crate::any_map;
 use crate::calls::load;
 use crate::case::Hex;
-use crate::fixed;
+use crate::fixed::{self, Setting};
 use crate::random::Random;
 use crate::refusals::{FLOOR, LOAD};
 use crate::report::{Answer, Report};
@@ -54,6 +54,11 @@ pub fn compare(report: &mut Report) {
         compare_input(report, input, false, known);
     }
     compare_input(report, &[], false, None);
+    for Setting { map, known, .. } in fixed::settings() {
+        let refused = format!("refused {}\n", known.refusal);
+        let known = (known.refusal != 0).then_some(("a fixed answer", refused.as_bytes()));
+        compare_input(report, &well_formed(&map), false, known);
+    }
     for seed in 0..MAPS {
         compare_input(report, &well_formed(&any_map(&Random::new(seed))), false, None);
     }
@@ -99,7 +104,7 @@ fn well_formed(map: &Flat) -> Vec<u8> {
 
 /// Short, long, a size over 120 with and without its bytes, a count that isn't 1 to 15.
 fn refused_9(random: &Random, run: usize) -> Vec<u8> {
-    let mut map = map_answering(random, run % 3);
+    let mut map = map_answering(random, random.pick(&[0, 1, 2, 16]));
     match run % 6 {
         0 => {
             let mut input = well_formed(&map);

@@ -57,4 +57,13 @@ impl Random {
     pub fn pick<T: Copy>(&self, from: &[T]) -> T {
         from[self.below(from.len())]
     }
+
+    /// Any of them, but more often the last than each of the others.
+    pub fn pick_late<T: Copy>(&self, from: &[T]) -> T {
+        if self.once_in(4) {
+            from[from.len() - 1]
+        } else {
+            self.pick(from)
+        }
+    }
 }

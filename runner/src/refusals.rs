@@ -1,8 +1,9 @@
-//! Document 01's refusals: what each names, which of them each call can answer, and how often each must be seen. 0 stands
-//! for an accepted call.
+//! The refusals of documents 01 and 02: what each names, which of them each call can answer, and how often each must be
+//! seen. 0 stands for an accepted call.
 
-/// The highest number.
-pub const LAST: usize = 14;
+/// The highest number, and one below it that no call answers.
+pub const LAST: usize = 16;
+const UNUSED: usize = 15;
 
 /// How often each number that can occur must be seen, in each row of a table.
 pub const FLOOR: u64 = 50;
@@ -11,7 +12,7 @@ pub const FLOOR: u64 = 50;
 pub const LISTS_TO_THE_END: u64 = 5_000;
 
 /// The checks of an entry, in their order: each names the entry.
-const ENTRY_CHECKS: [usize; 7] = [1, 2, 3, 4, 5, 6, 7];
+const ENTRY_CHECKS: [usize; 8] = [16, 1, 2, 3, 4, 5, 6, 7];
 
 /// The checks of a chosen lane, in their order: each names the lane.
 const LANE_CHECKS: [usize; 2] = [13, 14];
@@ -44,7 +45,7 @@ pub const LANES: Numbers = ACCEPTED.and(&LANE_CHECKS);
 pub const COPIED: Numbers = ACCEPTED.and(&[14]);
 
 // What an entry can be refused with whatever its ID: in either string, in one that it belongs to, in the other.
-const ANY_ENTRY: Numbers = only(&[1, 2]);
+const ANY_ENTRY: Numbers = only(&[16, 1, 2]);
 pub const IN_PLACE: Numbers = ANY_ENTRY.and(&[7]);
 pub const MISPLACED: Numbers = ANY_ENTRY.and(&[3]);
 
@@ -80,7 +81,7 @@ pub const fn checks_after(number: usize) -> Numbers {
 impl Numbers {
     pub const fn and(mut self, mut numbers: &[usize]) -> Numbers {
         while let [first, rest @ ..] = numbers {
-            assert!(*first <= LAST);
+            assert!(*first <= LAST && *first != UNUSED);
             self.0 |= 1 << *first;
             numbers = rest;
         }

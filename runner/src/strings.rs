@@ -9,6 +9,8 @@ pub const RO: usize = 1;
 
 /// The longest string that is accepted.
 pub const LONGEST: usize = 120;
+/// The most entries of a string that are accepted.
+pub const MOST_ENTRIES: usize = 16;
 /// The largest sum of MemoryLengths that is accepted.
 pub const LARGEST: usize = 256;
 
@@ -40,8 +42,27 @@ impl Strings {
         3 + self.a()
     }
 
+    /// The least Length of an entry without fields, which no other ID goes below.
+    pub fn least(&self) -> usize {
+        3 + self.a()
+    }
+
     pub fn size(&self, string: usize) -> usize {
         self.entries[string].iter().map(Vec::len).sum()
+    }
+
+    /// A string can take one more small entry.
+    pub fn has_room(&self, string: usize) -> bool {
+        self.entries[string].len() < MOST_ENTRIES && self.size(string) + self.least() <= LONGEST
+    }
+
+    /// An entry without fields, of the least Length.
+    pub fn small_entry(&self, id: u8, memory: usize) -> Vec<u8> {
+        let mut entry = vec![0; self.least()];
+        entry[0] = id;
+        entry[1] = entry.len() as u8;
+        entry[self.memory_at()] = memory as u8;
+        entry
     }
 
     /// MemoryLength of an entry, 0 if it was cut off.

@@ -1,9 +1,9 @@
-//! Every ID in both strings and with both mask sizes, each of its numbers at and beside its limit; every step; every ID of
-//! the table after every other; every byte of a map with all of them.
+//! Every ID in both strings and with both mask sizes, each of its numbers at and beside its limit, as a 17th entry too;
+//! every step; every ID of the table after every other; every count of entries; every byte of a map with the whole table.
 
 use crate::fixed::{hex, WHOLE};
 use crate::shape::{self, mask_bytes, shape};
-use crate::strings::{Flat, RO, RW};
+use crate::strings::{Flat, LONGEST, MOST_ENTRIES, RO, RW};
 
 /// Hands each map of the sweep to `take`.
 pub fn sweep(mut take: impl FnMut(&Flat)) {
@@ -16,9 +16,11 @@ pub fn sweep(mut take: impl FnMut(&Flat)) {
             }
             for id in 0..=0xFF {
                 each_step(count, id, |entry| take(&alone(count, string, 0x0B, entry)));
+                each_entry(count, id, |entry| take(&seventeenth(count, string, entry)));
             }
         }
         each_pair(count, &mut take);
+        each_count(count, &mut take);
     }
     each_byte(&mut take);
 }
@@ -70,6 +72,18 @@ fn each_pair(count: usize, take: &mut impl FnMut(&Flat)) {
     }
 }
 
+/// Every count of RW and of RO entries that 120 bytes allow, with one byte left after either string and without.
+fn each_count(count: usize, take: &mut impl FnMut(&Flat)) {
+    let small = small(count);
+    let counts = 0..=LONGEST / small.len();
+    for (rw, ro) in counts.clone().flat_map(|rw| counts.clone().map(move |ro| (rw, ro))) {
+        for left in [[0, 0], [1, 0], [0, 1]] {
+            let string = |entries, left| [small.repeat(entries), vec![0; left]].concat();
+            take(&Flat { count, strings: [string(rw, left[RW]), string(ro, left[RO])] });
+        }
+    }
+}
+
 /// A map with every ID of the table, for every value of every byte of both strings.
 fn each_byte(take: &mut impl FnMut(&Flat)) {
     let map = Flat { count: 4, strings: WHOLE.map(hex) };
@@ -93,6 +107,20 @@ fn filled(a: usize, id: u8, length: usize, memory: u8, byte: u8) -> Vec<u8> {
         *place = memory;
     }
     entry
+}
+
+/// An entry that reserves a byte.
+fn small(count: usize) -> Vec<u8> {
+    let a = mask_bytes(count);
+    filled(a, 0x13, 3 + a, 1, 0)
+}
+
+/// The entry after 16 others of its string; in RO after RW entries too, as many as its ID has a remainder by 17.
+fn seventeenth(count: usize, string: usize, entry: &[u8]) -> Flat {
+    let small = small(count);
+    let mut strings = [small.repeat(usize::from(entry[0]) % (MOST_ENTRIES + 1)), Vec::new()];
+    strings[string] = [small.repeat(MOST_ENTRIES), entry.to_vec()].concat();
+    Flat { count, strings }
 }
 
 /// The entry in its string, after an RW entry with the ID `before` and an odd last byte, and before nothing.

@@ -2,7 +2,7 @@
 
 use crate::refusals::{Numbers, FLOOR, LAST};
 
-/// Document 01's numbers; the last column takes any other.
+/// The documents' numbers; the last column takes any other.
 const COLUMNS: usize = LAST + 2;
 
 /// A row of a tally, the numbers that can occur in it, and how often each of them must.

@@ -1,21 +1,20 @@
-//! Maps that the load accepts: every count, few or many entries, full strings, sums up to exactly 256.
+//! Maps that the load accepts: every count, few entries, 15 or 16 in a string, full strings, sums up to exactly 256.
 
 use crate::random::Random;
 use crate::shape::shape;
-use crate::strings::{good_entry, high_opaque, Strings, LARGEST, LONGEST, RO, RW};
+use crate::strings::{good_entry, high_opaque, Strings, LARGEST, LONGEST, MOST_ENTRIES, RO, RW};
 
 pub fn valid(random: &Random) -> Strings {
     let mut strings = Strings::new(random, good_count(random));
     for string in [RW, RO] {
-        let room = random.pick(&[0, 12, 40, 80, LONGEST, LONGEST, LONGEST]);
-        if random.once_in(6) {
-            small_entries(random, &mut strings, string, room);
-        }
-        for _ in 0..random.below(24) {
-            add_entry(random, &mut strings, string, room);
+        if random.once_in(3) {
+            let number = random.pick(&[MOST_ENTRIES - 1, MOST_ENTRIES, MOST_ENTRIES]);
+            fill_entries(random, &mut strings, string, number, LONGEST);
+        } else {
+            add_entries(random, &mut strings, string);
         }
     }
-    if random.once_in(4) {
+    if random.once_in(3) {
         fill_sum(random, &mut strings);
     }
     for string in [RW, RO] {
@@ -35,30 +34,51 @@ pub fn good_count(random: &Random) -> usize {
     }
 }
 
-/// Adds an entry if it leaves the string within its room, the sum within 256 and check 6 content.
-fn add_entry(random: &Random, strings: &mut Strings, string: usize, room: usize) {
+/// Adds entries as they come, up to 16.
+fn add_entries(random: &Random, strings: &mut Strings, string: usize) {
+    let room = random.pick(&[0, 12, 40, 80, LONGEST, LONGEST, LONGEST]);
+    for _ in 0..random.below(24) {
+        if strings.entries[string].len() < MOST_ENTRIES {
+            add_entry(random, strings, string, room);
+        }
+    }
+}
+
+/// Brings a string to this number of entries, which its room allows: small ones alone, or as they come, with small ones where
+/// others would leave too few bytes. The last finds room for any ID, where that can be.
+pub fn fill_entries(random: &Random, strings: &mut Strings, string: usize, number: usize, room: usize) {
+    let as_they_come = !random.once_in(4);
+    while strings.entries[string].len() < number {
+        let later = number - strings.entries[string].len() - 1;
+        let kept = if later == 0 { 0 } else { later * strings.least() + 6 };
+        let is_small = !as_they_come || later > 0 && random.once_in(3);
+        if is_small || !add_entry(random, strings, string, room.saturating_sub(kept)) {
+            add_small(random, strings, string);
+        }
+    }
+}
+
+/// Adds an entry if it leaves the string within its room, the sum within 256 and check 6 content. Says whether it did.
+fn add_entry(random: &Random, strings: &mut Strings, string: usize, room: usize) -> bool {
     let repeated = strings.entries[string].last().filter(|_| random.once_in(6)).map(|entry| entry[0]);
     let id = repeated.unwrap_or_else(|| strings.right_id(random, string));
     let must_be_media = strings.has_media() && (0x02..=0x08).contains(&id);
     let has_fields = shape(id).needed > 0;
     let media = must_be_media || random.once_in(if has_fields { 8 } else { 2 });
     let entry = good_entry(random, strings.count, id, media);
-    let fits = strings.size(string) + entry.len() <= room;
-    if fits && strings.sum() + strings.memory(&entry) <= LARGEST {
+    let fits = strings.size(string) + entry.len() <= room && strings.sum() + strings.memory(&entry) <= LARGEST;
+    if fits {
         strings.entries[string].push(entry);
     }
+    fits
 }
 
-/// Adds entries of the least Length that reserve nothing or one byte, so that many stand in a string.
-fn small_entries(random: &Random, strings: &mut Strings, string: usize, room: usize) {
-    let length = 3 + strings.a();
-    while strings.size(string) + length <= room && !random.once_in(40) {
-        let mut entry = vec![0; length];
-        entry[0] = if random.once_in(2) { 0x00 } else { high_opaque(random) };
-        entry[1] = length as u8;
-        entry[length - 1] = random.below(2) as u8;
-        strings.entries[string].push(entry);
-    }
+/// Adds an entry of the least Length that reserves nothing or, within the sum of 256, one byte.
+fn add_small(random: &Random, strings: &mut Strings, string: usize) {
+    let id = if random.once_in(2) { 0x00 } else { high_opaque(random) };
+    let memory = random.below(2).min(LARGEST.saturating_sub(strings.sum()));
+    let entry = strings.small_entry(id, memory);
+    strings.entries[string].push(entry);
 }
 
 /// Brings the sum to 256 exactly, where there is room for it: by a larger MemoryLength, or by 00h entries.
@@ -71,11 +91,8 @@ fn fill_sum(random: &Random, strings: &mut Strings) {
             last[place] = memory;
         }
     }
-    while strings.sum() < LARGEST && strings.size(string) + place < LONGEST {
-        let memory = (LARGEST - strings.sum()).min(255);
-        let mut entry = vec![0; place + 1];
-        entry[1] = entry.len() as u8;
-        entry[place] = memory as u8;
+    while strings.sum() < LARGEST && strings.has_room(string) {
+        let entry = strings.small_entry(0x00, (LARGEST - strings.sum()).min(255));
         strings.entries[string].push(entry);
     }
 }

@@ -115,7 +115,7 @@ fn set_bytes(bank: &mut [u8], set: usize) -> &mut [u8] {
     &mut bank[set_start(set)..set_start(set) + 256]
 }
 
-/// 9, 8, 1 to 7.
+/// 9, 8, then 1 to 7 and 16.
 fn read_with_bank(count: usize, rw: &[u8], ro: &[u8], bank: &[u8]) -> Result<Map, Refusal> {
     crate::map::check_9(count, &[rw, ro])?;
     judge::bank_8(bank)?;

@@ -1,6 +1,6 @@
 //! The caller's refusals 8, 10 and 11 as checks one after the other. "Order:
-//! 9, 8, 1 to 7, 10, 11, then 12, or 13 before 14." 9 and 1 to 7 stand with
-//! the reading of the strings.
+//! 9, 8, 1 to 7, 10, 11, then 12, or 13 before 14." 9, and 1 to 7 with 16
+//! beside them, stand with the reading of the strings.
 
 use crate::map::{Entry, Map, LANES};
 use crate::Refusal;

@@ -1,7 +1,7 @@
 //! A second, independent rendering of the paper "The versatile control set:
-//! maps, banks and applied settings", with note 1 of its change requests, "The
-//! numeric parameters". Words in quotes are the paper's, or note 1's or the
-//! agreement's where these are named.
+//! maps, banks and applied settings", with notes 1 and 7 of its change requests,
+//! "The numeric parameters" and "Sixteen entries". Words in quotes are the
+//! paper's, or a note's or the agreement's where these are named.
 //!
 //! Method: both strings are read completely into a list of entries, or the
 //! refusal (`map`). The map is then expanded into one owner for every bit of a
@@ -27,7 +27,7 @@ pub use reader::{reader_step, Reader};
 pub use table::Table;
 
 /// "A refusal gives its number and the extras above": the entry number with 1
-/// to 7, the lowest such lane with 13 and 14, nothing with 8 to 12.
+/// to 7 and 16, the lowest such lane with 13 and 14, nothing with 8 to 12.
 #[derive(Clone, Copy, Debug, PartialEq, Eq)]
 pub struct Refusal {
     pub number: u32,
@@ -41,7 +41,7 @@ impl Refusal {
         Refusal { number, entry: None, lane: None }
     }
 
-    /// 1 to 7, "the module's maker": "its entry number is answered too".
+    /// 1 to 7 and 16, "the module's maker": "its entry number is answered too".
     pub(crate) fn maker(number: u32, entry: usize) -> Refusal {
         Refusal { number, entry: Some(entry), lane: None }
     }

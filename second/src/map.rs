@@ -7,6 +7,9 @@ use crate::{EntryInfo, Loaded, Refusal, Step};
 pub const LANES: usize = 8;
 /// The bits of one set: 256 bytes.
 pub const SET_BITS: usize = 2048;
+/// The most entries of a string. Note 7: "That becomes the limit for each
+/// string".
+const ENTRY_LIMIT: usize = 16;
 
 // ---------------------------------------------------------------------------
 // "Every rule about an ID is read from this table"
@@ -224,7 +227,7 @@ pub fn walk(a: usize, string: &[u8], position: usize) -> Step {
     Step::Entry { start: position, length }
 }
 
-/// A piece of a string: an entry's start and length, or the refusal 1 or 2.
+/// A piece of a string: an entry's start and length, or the refusal 16, 1 or 2.
 type Piece = Result<(usize, usize), u32>;
 
 /// A string cut into its pieces; a refusal is the last piece.
@@ -232,6 +235,12 @@ fn cut(a: usize, string: &[u8]) -> Vec<Piece> {
     let mut pieces = Vec::new();
     let mut position = 0;
     loop {
+        // Note 7: "16, a 17th entry, given before the other checks of that
+        // entry". Any byte left is the ID of one.
+        if pieces.len() == ENTRY_LIMIT && position < string.len() {
+            pieces.push(Err(16));
+            return pieces;
+        }
         match walk(a, string, position) {
             Step::End => return pieces,
             Step::Refused(number) => {
@@ -335,7 +344,7 @@ fn decode(count: usize, string: &[u8], in_ro: bool, piece: Piece, before: &[Entr
 }
 
 impl Map {
-    /// "The load is the check of both strings": 9, then 1 to 7.
+    /// "The load is the check of both strings": 9, then 1 to 7 and 16.
     pub fn read(count: usize, rw: &[u8], ro: &[u8]) -> Result<Map, Refusal> {
         check_9(count, &[rw, ro])?;
         let a = mask_bytes(count);
@@ -398,8 +407,7 @@ impl Decoded {
 // ---------------------------------------------------------------------------
 
 /// The owner of one bit of a set, and which bit of the field it is. Small
-/// numbers: a map has at most 60 entries (two strings of 120 bytes, 4 bytes
-/// at least each).
+/// numbers: a map has at most 2 × `ENTRY_LIMIT` entries.
 #[derive(Clone, Copy, Debug, PartialEq, Eq)]
 pub struct Owner {
     entry: u8,

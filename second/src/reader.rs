@@ -14,7 +14,7 @@ impl Reader<'_> {
     /// "a step is given the count, makes the checks 9, 1 and 2 alone, in that
     /// order, gives the next entry's start and length, a refusal, or the end
     /// (no byte left from its position on, after check 9), and moves only past
-    /// an entry".
+    /// an entry". 16 is no check of the reader: it goes on past 16 entries.
     pub fn step(&mut self, count: usize) -> Step {
         if let Err(refusal) = check_9(count, &[self.string]) {
             return Step::Refused(refusal.number);

@@ -199,7 +199,7 @@ fn place_and_owner_agree() {
 }
 
 /// Any strings, any count, any bank, any numbers: nothing panics, a refusal
-/// has the extras of its number, all calls give the same 1 to 9.
+/// has the extras of its number, all calls give the same 1 to 9 and 16.
 #[test]
 fn anything_at_all() {
     let mut random = Random(4);
@@ -246,8 +246,8 @@ fn anything_at_all() {
         }
         if let Answer::Refused(refusal) = answer {
             assert_eq!(bank, before);
-            assert_eq!(refusal.entry.is_some(), refusal.number <= 7);
-            assert_eq!(refusal.lane.is_some(), refusal.number >= 13);
+            assert_eq!(refusal.entry.is_some(), matches!(refusal.number, 1..=7 | 16));
+            assert_eq!(refusal.lane.is_some(), matches!(refusal.number, 13 | 14));
             *seen.entry(refusal.number).or_default() += 1;
         }
         let position = if random.chance(9) { random.next() as usize } else { random.below(130) };
@@ -262,7 +262,7 @@ fn anything_at_all() {
             }
         }
     }
-    for number in 1..=14 {
+    for number in (1..=14).chain([16]) {
         assert!(seen.contains_key(&number), "{number} {seen:?}");
     }
 }

@@ -7,11 +7,12 @@ use Prim.Native.Nat.{ℕ, suc, _<_}
 use native.Mathlib.Omega.{arith}
 use lib.ListN.{length, getD}
 use lib.Dec.{eqb}
+use Rattle.rules.specs.Descriptor.{entryLimit}
 use Rattle.rules.specs.declared.Entry.{Entry}
 use Rattle.rules.specs.declared.Call.{Call}
 use Rattle.rules.specs.declared.Answer.the-variants.{Yes as saysYes, Refused as refused}
 use Rattle.rules.specs.declared.Refusal.the-variants.{Plain as plain, AtLane as atLane}
-use Rattle.rules.specs.Load.{loadOf, rwEntries, Map, mapOf}
+use Rattle.rules.specs.Load.{loadOf, rwEntries, Map, mapOf, mapWithin, readOf}
 use Rattle.rules.specs.Place.{nothing, entry, partsOf, widthOf, signedOf, isSet}
 use Rattle.rules.specs.Accept.{accepts, fromBits}
 use Rattle.rules.specs.Refuse.{firstOf, bankOrder, exists, misdirected, unaccepted, judge}
@@ -38,11 +39,11 @@ use Rattle.control_set.proofs.EntryList.{list-all, list-fields}
 
 module _ (count : ℕ) (first last : List ℕ) where
   pub map-count : mapOf count first last .count ≡ count
-  unfolding mapOf
+  unfolding mapWithin
   map-count = refl
 
   pub map-rws : mapOf count first last .rwCount ≡ length (rwEntries count first)
-  unfolding mapOf
+  unfolding mapWithin
   map-rws = refl
 
 module _ (count : ℕ) (first last : List ℕ) (s lanes : ℕ) (b : Bank) where
@@ -128,7 +129,7 @@ module _ (count : ℕ) (first last : List ℕ) (s lanes : ℕ) (b : Bank) where
         (λ e b′ he. ap (λ (f : Fields). copyEntry (asked count) f b b′) (fields e he) ∙ entry-is ok e (rw all he) b′)
         ∙ ap (λ (n : ℕ). loop n (λ e. loop (partsOf (entry m e)) (λ p. loop 8 (λ j. copyField m s lanes b e p (suc j)))) b) (sym all ∙ sym (map-rws count first last))
 
-  -- the ways out of the call, past 9, 8 and 1 to 7
+  -- the ways out of the call, past 9, 8 and the checks of the entries
   module _ {n k c t : ℕ} (o : Opened count first last (length b) n k c t) where
     ok : Accepted count first last
     ok = opened-accepted count first last (Call.Apply s lanes) b o
@@ -146,7 +147,7 @@ module _ (count : ℕ) (first last : List ℕ) (s lanes : ℕ) (b : Bank) where
       apply-11 l = call-11 count first last (Call.Apply s lanes) b o h l
 
       module _ (l : eqb s 2 ≡ false) where
-        order : bankOrder count first last (length b) (judge m (Call.Apply s lanes) ++ bankPlan m (Call.Apply s lanes) b) ≡ firstOf (bankPlan m (Call.Apply s lanes) b)
+        order : bankOrder (readOf count first last) (length b) (judge m (Call.Apply s lanes) ++ bankPlan m (Call.Apply s lanes) b) ≡ firstOf (bankPlan m (Call.Apply s lanes) b)
         unfolding exists misdirected unaccepted
         order =
             bank-order-accepted count first last ok (length b) _ (o .size-is)
@@ -160,7 +161,7 @@ module _ (count : ℕ) (first last : List ℕ) (s lanes : ℕ) (b : Bank) where
         apply-13 {i} a ne = call-refused count first last (Call.Apply s lanes) b (atLane 13 i) (order ∙ rw (lowest-refuses 13 i _ (lacks a) ne) refl)
 
         module _ {i : ℕ} (a : Least 9 i (lacksBy (asked count) b)) (q : i ≡ 9) where
-          module _ (old list : List (List ℕ)) (long : length old ≡ 30) (w : list ≡ listOf (loadOf count first last) (rwEntries count first) old) where
+          module _ (old list : List (List ℕ)) (long : length old ≡ entryLimit) (w : list ≡ listOf (loadOf count first last) (rwEntries count first) old) where
             all : length (rwEntries count first) ≡ n
             all = list-all count first last n k c t (o .loads) old list long w
 

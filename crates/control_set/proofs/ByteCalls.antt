@@ -14,7 +14,7 @@ use Rattle.rules.specs.declared.Refusal.{Refusal}
 use Rattle.rules.specs.declared.Refusal.the-variants.{Plain as plain}
 use Rattle.rules.specs.declared.Call.{Call}
 use Rattle.rules.specs.declared.Answer.the-variants.{Yes as saysYes, Number as number, Refused as refused}
-use Rattle.rules.specs.Load.{Map, sized, mapOf}
+use Rattle.rules.specs.Load.{Map, sized, mapOf, readOf}
 use Rattle.rules.specs.Place.{entry, partsOf, widthOf, isSet, isStaged, heldBy, lengthOf}
 use Rattle.rules.specs.Layout.{bankSize, HasBytes, setStart}
 use Rattle.rules.specs.Refuse.{Verdict, refuses, firstOf, bankOrder, exists, misdirected, unaccepted}
@@ -61,14 +61,14 @@ module _ (count : ℕ) (first last : List ℕ) (size s k : ℕ) (h : sized count
   abbrev m : Map
   m = mapOf count first last
 
-  pub byte-refused : (r : Refusal) → coverOf count first last k ≡ notCovered r → (rest : List Verdict) → bankOrder count first last size rest ≡ refuses r
+  pub byte-refused : (r : Refusal) → coverOf count first last k ≡ notCovered r → (rest : List Verdict) → bankOrder (readOf count first last) size rest ≡ refuses r
   byte-refused r q rest = bank-order-refused count first last r h (cover-refused count first last k r q) size rest l
 
   pub byte-none :
       coverOf count first last k ≡ noEntry
       → (rest : List Verdict)
       → ((isSet s && ltb k (lengthOf (mapOf count first last) s)) ≡ false → firstOf rest ≡ refuses (plain 10))
-      → bankOrder count first last size rest ≡ refuses (plain 10)
+      → bankOrder (readOf count first last) size rest ≡ refuses (plain 10)
   byte-none q rest t =
       let (ok, past) = cover-none count first last k q in
       bank-order-accepted count first last ok size rest l ∙ t (rw (le-ltb k (lengthOf m s) (past s)) (and-no (isSet s)))
@@ -81,7 +81,7 @@ module _ (count : ℕ) (first last : List ℕ) (size s k : ℕ) (h : sized count
         (isSet s && not (isStaged s && inRO)) ≡ false
         → (rest : List Verdict)
         → ((isSet s && ltb k (lengthOf (mapOf count first last) s)) ≡ false → firstOf rest ≡ refuses (plain 10))
-        → bankOrder count first last size rest ≡ refuses (plain 10)
+        → bankOrder (readOf count first last) size rest ≡ refuses (plain 10)
     byte-10 x rest t = bank-order-accepted count first last (c .ok) size rest l ∙ t (byte-is ∙ x)
 
     pub byte-small : (o ≤ k) × (k < 256) × (parts < 16) × (width < 16)

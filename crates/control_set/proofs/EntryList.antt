@@ -9,12 +9,12 @@ use lib.ListN.{length, getD}
 use Rattle.rules.specs.declared.Entry.{Entry}
 use Rattle.rules.specs.declared.Loaded.the-variants.{Accepted as accepted}
 use Rattle.rules.specs.Parameter.{rowOf}
-use Rattle.rules.specs.Descriptor.{maskBytes, byteAt, highFirst}
-use Rattle.rules.specs.Load.{loadOf, rwEntries, mapOf}
+use Rattle.rules.specs.Descriptor.{maskBytes, byteAt, highFirst, entryLimit}
+use Rattle.rules.specs.Load.{loadOf, rwEntries, mapOf, mapWithin}
 use Rattle.rules.specs.Place.{nothing, signedOf}
 use Rattle.rules.specs.Demands.{Accepted}
 use Rattle.rules.proofs.Place.AcceptedMap.{GoodEntry, rw-held, entry-good, entry-ends}
-use Rattle.rules.proofs.Load.Walks.{map-good, load-accepted}
+use Rattle.rules.proofs.Load.Walks.{load-few, map-good, load-accepted}
 use Rattle.rules.proofs.Load.EntryHeads.{in-rw}
 use Rattle.rules.proofs.Load.Checks.{high-one, high-two}
 use Rattle.rules.proofs.Basics.Tests.{by-test}
@@ -23,7 +23,7 @@ use Rattle.descriptor.specs.EntryLines.{flag, lineOf, lines, listOf}
 use Rattle.descriptor.proofs.TableRows.{parts-few, width-narrow}
 use Rattle.descriptor.proofs.Accepts.{coded-ends}
 use Rattle.descriptor.proofs.Marks.{Marked, marked}
-use Rattle.descriptor.proofs.EntryLines.{entry-low, entry-high, codes-small, lines-at, rw-few}
+use Rattle.descriptor.proofs.EntryLines.{entry-low, entry-high, codes-small, lines-at}
 use Rattle.control_set.specs.declared.plan.Fields.{Fields}
 use Rattle.control_set.specs.Plan.{Narrow, Listed, Spread, LowCodes, fieldsOf, fieldsBy}
 
@@ -81,7 +81,7 @@ module _ (count : ℕ) (first last : List ℕ) (ok : Accepted count first last) 
   law = marked count first last ok false
 
   in-map : n < mapOf count first last .rwCount
-  unfolding mapOf
+  unfolding mapWithin
   in-map = h
 
   good : GoodEntry (getD (rwEntries count first) n nothing)
@@ -105,7 +105,7 @@ module _ (count : ℕ) (first last : List ℕ) (ok : Accepted count first last) 
   entry-spread = record { whole = good .width; inside = omega (arith, good .room, ends) }
 
 -- the list that apply makes of them
-module _ (count : ℕ) (first last : List ℕ) (n k c t : ℕ) (h : loadOf count first last ≡ accepted n k c t) (old list : List (List ℕ)) (long : length old ≡ 30)
+module _ (count : ℕ) (first last : List ℕ) (n k c t : ℕ) (h : loadOf count first last ≡ accepted n k c t) (old list : List (List ℕ)) (long : length old ≡ entryLimit)
     (q : list ≡ listOf (loadOf count first last) (rwEntries count first) old) where
   accept : Accepted count first last
   accept = record { rwCount = n; roCount = k; staged = c; active = t; loads = h }
@@ -113,8 +113,8 @@ module _ (count : ℕ) (first last : List ℕ) (n k c t : ℕ) (h : loadOf count
   pub list-all : length (rwEntries count first) ≡ n
   list-all = sym (load-accepted count first last n k c t h .rwCount)
 
-  list-few : n ≤ 30
-  list-few = omega (arith, rw-few count first last accept, list-all)
+  list-few : n ≤ entryLimit
+  list-few = omega (arith, load-few count first last accept, list-all)
 
   list-line : (i : ℕ) → i < n → getD list i [] ≡ lineOf (getD (rwEntries count first) i nothing)
   list-line i l =

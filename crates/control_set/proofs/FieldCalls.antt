@@ -1,4 +1,4 @@
--- A call that names a field: what `find` says of 9, 8, 1 to 7 and 10, and the rules' tests of the call, from the entry that is found.
+-- A call that names a field: what `find` says of 9, 8, the entries' checks and 10, and the rules' tests of the call, from the entry that is found.
 use mathlib.Core.Path.{_≡_, refl, sym, ap, _∙_}
 use mathlib.Core.Bool.{Bool, true, false, _&&_, _||_, not}
 use mathlib.Core.List.{List, [], _∷_}
@@ -13,11 +13,11 @@ use Rattle.rules.specs.declared.Answer.the-variants.{Number as number, Refused 
 use Rattle.rules.specs.declared.Refusal.{Refusal}
 use Rattle.rules.specs.declared.Refusal.the-variants.{Plain as plain}
 use Rattle.rules.specs.Parameter.{rowOf}
-use Rattle.rules.specs.Load.{Map, sized, mapOf}
+use Rattle.rules.specs.Load.{Map, sized, mapOf, readOf}
 use Rattle.rules.specs.Place.{entry, partsOf, widthOf, signedOf, isSet, isStaged, isRW, isLane, heldBy, hasField, Field}
 use Rattle.rules.specs.Accept.{accepts, toBits, weightOf}
 use Rattle.rules.specs.Layout.{bankSize, HasBytes}
-use Rattle.rules.specs.Refuse.{Verdict, passes, refuses, refuseIf, firstOf, check9, check8, check1to7, bankOrder, exists, misdirected}
+use Rattle.rules.specs.Refuse.{Verdict, passes, refuses, refuseIf, firstOf, check9, check8, checkEntries, bankOrder, exists, misdirected}
 use Rattle.rules.specs.Bank.{Bank, numberIn, withNumber, bankCall}
 use Rattle.rules.specs.Beside.{isWeighed, weightCall}
 use Rattle.rules.proofs.Basics.Tests.{and₃, is-true, not-not, or-no, from-true, and-yes, and-no}
@@ -57,12 +57,12 @@ module _ (count : ℕ) (first last : List ℕ) (size e p i : ℕ) where
   m = mapOf count first last
 
   verdict : Verdict
-  verdict = bankOrder count first last size (refuseIf (not (hasField m e p i)) (plain 10) ∷ [])
+  verdict = bankOrder (readOf count first last) size (refuseIf (not (hasField m e p i)) (plain 10) ∷ [])
 
   pub found-gated : (f : Found) → f ≡ foundOf count first last (ltb size bankSize) e p i → FieldGated count first last size e p i f
   unfolding foundOf toldOrder bankOrder check8 verdict
   found-gated (notFound r) q =
-      λ rest k. pass-on (check9 count first last) (check8 size) (check1to7 count first last) (hasField m e p i) r rest
+      λ rest k. pass-on (check9 (readOf count first last)) (check8 size) (checkEntries (readOf count first last)) (hasField m e p i) r rest
       (found-stops verdict _ r (sym q)) k
   found-gated (isIn f) q = go (ltb size bankSize) refl (sized count first last) refl
     where
@@ -228,7 +228,7 @@ module _ (count : ℕ) (first last : List ℕ) (b : Bank) (e i : ℕ) where
       rw (q, k (refuseIf (not (isWeighed (mapOf count first last) e i)) (plain 10) ∷ []) λ l. rw (unweighed l) refl) refl
 
   module _ {f : Named} (t : Entered count first last (length b) e 0 i f) where
-    order : bankOrder count first last (length b) (refuseIf (not (isWeighed (mapOf count first last) e i)) (plain 10) ∷ [])
+    order : bankOrder (readOf count first last) (length b) (refuseIf (not (isWeighed (mapOf count first last) e i)) (plain 10) ∷ [])
         ≡ firstOf (refuseIf (not (eqb (f .id) 0x12)) (plain 10) ∷ [])
     order =
         let (x, _, y) = and₃ (ltb e (length (mapOf count first last .entries))) (ltb 0 (partsOf (entry (mapOf count first last) e))) (isLane i) (from-true (t .named .has)) in

@@ -10,7 +10,7 @@ use Rattle.rules.specs.declared.Call.{Call}
 use Rattle.rules.specs.declared.Answer.{Answer}
 use Rattle.rules.specs.declared.Answer.the-variants.{Refused as refused}
 use Rattle.rules.specs.declared.Loaded.the-variants.{Accepted as accepted, Refused as rejected}
-use Rattle.rules.specs.Load.{loadOf, Map, mapOf}
+use Rattle.rules.specs.Load.{loadOf, Map, mapOf, mapWithin, readOf}
 use Rattle.rules.specs.Refuse.{Verdict, passes, refuses, firstOf, decide, bankOrder, exists, misdirected, unaccepted, judge}
 use Rattle.rules.specs.Bank.{Bank, bankPlan, bankDoes, bankCall, freshBank, freshCall}
 use Rattle.rules.specs.Demands.{Accepted}
@@ -21,22 +21,22 @@ use Rattle.control_set.specs.Gate.{Opened}
 
 -- an accepted load has a count of at most 15
 pub count-top : (count : ℕ) (first last : List ℕ) {n k s t : ℕ} → loadOf count first last ≡ accepted n k s t → count ≤ 15
-unfolding mapOf
+unfolding mapWithin
 count-top count first last {n} {k} {s} {t} h = map-good count first last (record { rwCount = n; roCount = k; staged = s; active = t; loads = h }) .count
 
 module _ (count : ℕ) (first last : List ℕ) (c : Call) (b : Bank) where
   abbrev m : Map
   m = mapOf count first last
 
-  -- 9, 8 and 1 to 7
-  pub call-shut : (r : Refusal) → ((rest : List Verdict) → bankOrder count first last (length b) rest ≡ refuses r) → bankCall count first last c b ≡ (refused r, b)
+  -- 9, 8 and the checks of the entries
+  pub call-shut : (r : Refusal) → ((rest : List Verdict) → bankOrder (readOf count first last) (length b) rest ≡ refuses r) → bankCall count first last c b ≡ (refused r, b)
   call-shut r h = call-refused count first last c b r (h (judge m c ++ bankPlan m c b))
 
   module _ {n k s t : ℕ} (o : Opened count first last (length b) n k s t) where
     pub opened-accepted : Accepted count first last
     opened-accepted = record { rwCount = n; roCount = k; staged = s; active = t; loads = o .loads }
 
-    order : bankOrder count first last (length b) (judge m c ++ bankPlan m c b) ≡ firstOf (judge m c ++ bankPlan m c b)
+    order : bankOrder (readOf count first last) (length b) (judge m c ++ bankPlan m c b) ≡ firstOf (judge m c ++ bankPlan m c b)
     order = bank-order-accepted count first last opened-accepted (length b) (judge m c ++ bankPlan m c b) (o .size-is)
 
     pub call-10 : exists m c ≡ false → bankCall count first last c b ≡ (refused (plain 10), b)
@@ -61,7 +61,7 @@ module _ (count : ℕ) (first last : List ℕ) (b : Bank) where
 
   kept : (c : Call) (a : Answer) → bankDoes (mapOf count first last) c b ≡ (a, b) → b ≡ bankCall count first last c b .1
   unfolding bankCall
-  kept c a h = rw h (decided (bankOrder count first last (length b) (judge (mapOf count first last) c ++ bankPlan (mapOf count first last) c b)) a)
+  kept c a h = rw h (decided (bankOrder (readOf count first last) (length b) (judge (mapOf count first last) c ++ bankPlan (mapOf count first last) c b)) a)
 
   pub read-keeps : (s e p i : ℕ) → b ≡ bankCall count first last (Call.Read s e p i) b .1
   unfolding bankDoes
@@ -73,12 +73,12 @@ module _ (count : ℕ) (first last : List ℕ) (b : Bank) where
 
 -- fresh
 module _ (count : ℕ) (first last : List ℕ) (b : Bank) where
-  pub fresh-shut : (r : Refusal) → ((rest : List Verdict) → bankOrder count first last (length b) rest ≡ refuses r) → freshCall count first last b ≡ (rejected r, b)
+  pub fresh-shut : (r : Refusal) → ((rest : List Verdict) → bankOrder (readOf count first last) (length b) rest ≡ refuses r) → freshCall count first last b ≡ (rejected r, b)
   unfolding freshCall
   fresh-shut r h = rw (h []) refl
 
   pub fresh-open : {n k s t : ℕ} → Opened count first last (length b) n k s t → freshCall count first last b ≡ (accepted n k s t, freshBank b)
-  unfolding freshCall
+  unfolding freshCall loadOf
   fresh-open {n} {k} {s} {t} o =
       rw (
         bank-order-accepted count first last (record { rwCount = n; roCount = k; staged = s; active = t; loads = o .loads }) (length b) [] (o .size-is),

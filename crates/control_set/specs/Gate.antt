@@ -1,4 +1,4 @@
--- The checks 9, 8 and 1 to 7 of a call on a bank of a size: refused whatever follows, or past them with the load's numbers.
+-- The checks 9, 8 and those of the entries, of a call on a bank of a size: refused whatever follows, or past them with the load's numbers.
 use mathlib.Core.Path.{_≡_}
 use mathlib.Core.Bool.{Bool, false, _&&_, cond}
 use mathlib.Core.List.{List}
@@ -8,7 +8,7 @@ use Rattle.rules.specs.declared.Loaded.the-variants.{Accepted as accepted}
 use Rattle.rules.specs.declared.Answer.{Answer}
 use Rattle.rules.specs.declared.Answer.the-variants.{Yes as saysYes, Refused as refused}
 use Rattle.rules.specs.declared.Refusal.the-variants.{Plain as plain}
-use Rattle.rules.specs.Load.{loadOf, mapOf}
+use Rattle.rules.specs.Load.{loadOf, mapOf, readOf}
 use Rattle.rules.specs.Place.{isSet, hasField, lengthOf}
 use Rattle.rules.specs.Layout.{bankSize}
 use Rattle.rules.specs.Refuse.{Verdict, refuses, firstOf, bankOrder}
@@ -30,9 +30,9 @@ pub record Opened (count : ℕ) (rw ro : List ℕ) (size n k c t : ℕ) : Type 0
 
 abbrev pub Gated : ℕ → List ℕ → List ℕ → ℕ → Gate → Type 0
 Gated count rw ro size (opens n k c t) = Opened count rw ro size n k c t
-Gated count rw ro size (shuts r) = (rest : List Verdict) → bankOrder count rw ro size rest ≡ refuses r
+Gated count rw ro size (shuts r) = (rest : List Verdict) → bankOrder (readOf count rw ro) size rest ≡ refuses r
 
--- past 9, 8 and 1 to 7 with a field of the map
+-- past 9, 8 and the checks of the entries with a field of the map
 pub record Entered (count : ℕ) (rw ro : List ℕ) (size e p i : ℕ) (f : Named) : Type 0 where
   pub size-is : bankSize ≤ size
   pub named : InMap count rw ro e p i f
@@ -41,7 +41,7 @@ pub record Entered (count : ℕ) (rw ro : List ℕ) (size e p i : ℕ) (f : Name
 abbrev pub FieldGated : ℕ → List ℕ → List ℕ → ℕ → ℕ → ℕ → ℕ → Found → Type 0
 FieldGated count rw ro size e p i (isIn f) = Entered count rw ro size e p i f
 FieldGated count rw ro size e p i (notFound r) =
-    (rest : List Verdict) → (hasField (mapOf count rw ro) e p i ≡ false → firstOf rest ≡ refuses (plain 10)) → bankOrder count rw ro size rest ≡ refuses r
+    (rest : List Verdict) → (hasField (mapOf count rw ro) e p i ≡ false → firstOf rest ≡ refuses (plain 10)) → bankOrder (readOf count rw ro) size rest ≡ refuses r
 
 -- the answer of a call that names a field, where none is found
 abbrev pub refusedOf : Found → Answer
@@ -61,7 +61,7 @@ pub record Reached (count : ℕ) (rw ro : List ℕ) (size s k : ℕ) (fields : B
 abbrev pub ByteGated : ℕ → List ℕ → List ℕ → ℕ → ℕ → ℕ → Byte → Type 0
 ByteGated count rw ro size s k (has fields) = Reached count rw ro size s k fields
 ByteGated count rw ro size s k (stops r) =
-    (rest : List Verdict) → ((isSet s && ltb k (lengthOf (mapOf count rw ro) s)) ≡ false → firstOf rest ≡ refuses (plain 10)) → bankOrder count rw ro size rest ≡ refuses r
+    (rest : List Verdict) → ((isSet s && ltb k (lengthOf (mapOf count rw ro) s)) ≡ false → firstOf rest ≡ refuses (plain 10)) → bankOrder (readOf count rw ro) size rest ≡ refuses r
 
 abbrev pub byteRefused : Byte → Answer
 byteRefused (has fields) = saysYes

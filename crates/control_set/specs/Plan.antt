@@ -9,7 +9,7 @@ use lib.IntN.{pos, negsuc, _-ℤ_}
 use lib.Signed.{leZ}
 use lib.ListN.{length, getD, set}
 use Rattle.rules.specs.declared.Entry.{Entry}
-use Rattle.rules.specs.Descriptor.{isApp, hasApp}
+use Rattle.rules.specs.Descriptor.{isApp, hasApp, entryLimit}
 use Rattle.rules.specs.Numbers.{bitOf, any}
 use Rattle.rules.specs.Place.{Width}
 use Rattle.rules.specs.Layout.{bankSize, setStart}
@@ -73,7 +73,7 @@ pub record Narrow (line : List ℕ) : Type 0 where
 
 -- the lines of n entries
 pub record Listed (n : ℕ) (list : List (List ℕ)) : Type 0 where
-  pub few : n ≤ 30
+  pub few : n ≤ entryLimit
   pub narrow : (i : ℕ) → i < n → Narrow (getD list i [])
   pub spread : (i : ℕ) → i < n → Spread (fieldsBy (getD list i []))
   pub codes : (i : ℕ) → i < n → LowCodes (fieldsBy (getD list i []))

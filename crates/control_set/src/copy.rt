@@ -16,6 +16,7 @@ use crate::plan::copies;
 use crate::plan::fields_at;
 use rules::ACTIVE_END;
 use rules::ACTIVE_START;
+use rules::ENTRY_LIMIT;
 
 // The copier: bits into a byte of the active set, which is all that it is lent.
 fn put_bits(active: &mut [u8], at: usize, bit: usize, width: usize, bits: u8)
@@ -116,7 +117,13 @@ fn copy_chosen(chosen: Chosen, apps: usize, f: Fields, bank: &mut [u8])
 }
 
 // The entries of a list.
-pub fn copy_all(chosen: Chosen, apps: usize, list: &[[u16; 9]; 30], entries: usize, bank: &mut [u8])
+pub fn copy_all(
+    chosen: Chosen,
+    apps: usize,
+    list: &[[u16; 9]; ENTRY_LIMIT],
+    entries: usize,
+    bank: &mut [u8],
+)
     requires { ⌜ Listed entries (now list) ⌝ }
     requires { ⌜ Asked chosen (now bank) × Wants chosen (now bank) 9 apps × Clear 9 (lacksBy chosen (now bank)) ⌝ }
     ensures { λ _. ⌜ now (bank .exit) ≡ copyAmong chosen entries (now (list .entry)) (now (bank .entry)) (now (bank .entry)) ⌝ }

@@ -1,4 +1,4 @@
-// What every call on a bank checks first: 9, 8, then 1 to 7.
+// What every call on a bank checks first: 9, 8, then the entries.
 ghost use Rattle.control_set.specs.Gate.{Gated, FieldGated, ByteGated};
 use descriptor::Covered;
 use descriptor::Found;
@@ -10,7 +10,7 @@ use rules::BANK_SIZE;
 use rules::Loaded;
 use rules::Refusal;
 
-// Past 9, 8 and 1 to 7, with what the load answers; or the refusal.
+// Past 9, 8 and the checks of the entries, with what the load answers; or the refusal.
 pub enum Gate {
     Open {
         rw: usize,
@@ -68,7 +68,7 @@ pub enum Byte {
     Refused(Refusal),
 }
 
-// The same for a call that names a byte: 9, 8, then 1 to 7 and a set or offset that doesn't exist.
+// The same for a call that names a byte: 9, 8, the entries' checks, then a set or offset that doesn't exist.
 pub fn admit_byte(
     count: usize,
     rw: &[u8],

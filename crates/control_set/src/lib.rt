@@ -16,7 +16,7 @@ mod accept; // accepted values
 mod bank; // a field of a bank
 mod copy; // apply's copy
 mod field; // a field of a byte
-mod gate; // 9, 8 and 1 to 7
+mod gate; // 9, 8 and the checks of the entries
 mod number; // numbers and bits
 mod plan; // 13 and 14
 
@@ -46,6 +46,7 @@ use descriptor::limits;
 use rules::Answer;
 use rules::BANK_SIZE;
 use rules::Call;
+use rules::ENTRY_LIMIT;
 use rules::Loaded;
 use rules::Refusal;
 
@@ -311,7 +312,7 @@ fn apply_within(
     ensures answer { λ r. ⌜ r ≡ bankCall count (now (rw .entry)) (now (ro .entry)) (Call.Apply set lanes) (now (bank .entry)) .0 ⌝ }
     ensures after { λ _. ⌜ now (bank .exit) ≡ bankCall count (now (rw .entry)) (now (ro .entry)) (Call.Apply set lanes) (now (bank .entry)) .1 ⌝ }
 {
-    let mut list = [[0; 9]; 30];
+    let mut list = [[0; 9]; ENTRY_LIMIT];
     let loaded = entries(count, rw, ro, &mut list);
     match loaded {
         Loaded::Refused(r) => Answer::Refused(r),

@@ -4,7 +4,7 @@ ghost use Prim.Native.Nat.{_-_, _^_, _≤_, _<_};
 ghost use mathlib.Core.List.{[]};
 ghost use lib.IntN.{pos};
 ghost use lib.ListN.{length, getD};
-ghost use Rattle.rules.specs.Descriptor.{isApp, hasApp};
+ghost use Rattle.rules.specs.Descriptor.{isApp, hasApp, entryLimit};
 ghost use Rattle.rules.specs.Layout.{bankSize};
 ghost use Rattle.rules.specs.Refuse.{chooses};
 ghost use Rattle.rules.specs.Bank.{appSelIn};
@@ -22,6 +22,7 @@ use descriptor::columns::OFFSET;
 use descriptor::columns::PARTS;
 use descriptor::columns::SIGNED;
 use descriptor::columns::WIDTH;
+use rules::ENTRY_LIMIT;
 
 // What apply is asked: the count, a staged set, and lanes, bit i − 1 for lane i.
 pub struct Chosen {
@@ -45,8 +46,8 @@ pub struct Fields {
 }
 
 // By its line in a list.
-pub fn fields_at(list: &[[u16; 9]; 30], entry: usize) -> Fields
-    requires { ⌜ (entry < 30) × Narrow (getD (now list) entry []) ⌝ }
+pub fn fields_at(list: &[[u16; 9]; ENTRY_LIMIT], entry: usize) -> Fields
+    requires { ⌜ (entry < entryLimit) × Narrow (getD (now list) entry []) ⌝ }
     ensures { λ r. ⌜ r ≡ fieldsBy (getD (now (list .entry)) entry []) ⌝ }
 {
     let line = list[entry];
@@ -260,7 +261,7 @@ fn lowest_in_entry(chosen: Chosen, apps: usize, f: Fields, top: usize, bank: &[u
 pub fn lowest_bad(
     chosen: Chosen,
     apps: usize,
-    list: &[[u16; 9]; 30],
+    list: &[[u16; 9]; ENTRY_LIMIT],
     entries: usize,
     bank: &[u8],
 ) -> usize

@@ -2,7 +2,7 @@
 use mathlib.Core.Path.{_≡_, refl, sym, ap, _∙_}
 use mathlib.Core.Bool.{Bool, true, false, _&&_, not, cond}
 use mathlib.Core.List.{List, [], _∷_}
-use Prim.Native.Nat.{ℕ, zero, suc, _+_, _-_, _≤_, _<_}
+use Prim.Native.Nat.{ℕ, zero, suc, _+_, _*_, _-_, _≤_, _<_}
 use native.Mathlib.Omega.{arith}
 use lib.ListN.{length, getD}
 use lib.Dec.{ltb, leb, ltb→lt, leb→le}
@@ -12,7 +12,7 @@ use Rattle.rules.specs.declared.Refusal.{Refusal}
 use Rattle.rules.specs.declared.Refusal.the-variants.{Plain as plain}
 use Rattle.rules.specs.declared.Loaded.{Loaded}
 use Rattle.rules.specs.declared.Loaded.the-variants.{Accepted as accepted, Refused as rejected}
-use Rattle.rules.specs.Descriptor.{maskBytes, byteAt, entryAt}
+use Rattle.rules.specs.Descriptor.{maskBytes, byteAt, entryAt, entryLimit}
 use Rattle.rules.specs.Load.{Map, sized, loadOf, total, mapOf}
 use Rattle.rules.specs.Place.{nothing, entry, partsOf, widthOf, isRW, heldBy, lengthOf}
 use Rattle.rules.specs.Refuse.{check9, orderOf}
@@ -215,13 +215,13 @@ module _ (count : ℕ) (first last : List ℕ) (k n c d t : ℕ) (h : loadOf cou
           x .number < cond inRO c n
           → (x .at ≤ 120)
           × (by (cond inRO (n + x .number) (x .number)) (x .sum) (partsOf (entryAt (maskBytes count) (cond inRO last first) (x .at) (x .sum))) (widthOf (entryAt (maskBytes count) (cond inRO last first) (x .at) (x .sum))) inRO ≡ coverOf count first last k)
-          × (cond inRO (n + x .number) (x .number) ≤ 240)
+          × (cond inRO (n + x .number) (x .number) ≤ 2 * entryLimit)
       covers-found l =
           let (u, v) = in-string (x .number) l in
           let e = cond inRO (n + x .number) (x .number) in
           let q = sym (entry-stands count first last n c d t h inRO (x .number) l) ∙ f .is in
           let (y, w) = covers-at e u (entry-heads count first last n c d t h inRO (x .number) l) q (f .low) (f .top l) in
-          (omega (arith, short inRO), rw v at w, omega (arith, few-entries count first last ok, strings-short count first last ok))
+          (omega (arith, short inRO), rw v at w, omega (arith, few-entries count first last ok))
 
       -- none: the byte lies past the spaces of the string
       pub covers-past : cond inRO c n ≤ x .number → cond inRO t d ≤ k

@@ -1,8 +1,8 @@
--- The lines of the RW entries: what a line says, what a list of them holds, and that a string has at most 30 entries.
+-- The lines of the RW entries: what a line says and what a list of them holds.
 use mathlib.Core.Path.{_≡_, refl, sym, ap, _∙_, subst}
 use mathlib.Core.Bool.{Bool, true, false, cond}
-use mathlib.Core.List.{List, [], _∷_}
-use Prim.Native.Nat.{ℕ, zero, suc, _+_, _-_, _*_, _^_, _≤_, _<_}
+use mathlib.Core.List.{List, []}
+use Prim.Native.Nat.{ℕ, zero, suc, _+_, _-_, _^_, _≤_, _<_}
 use native.Mathlib.Decide.{ℕ-discrete}
 use native.Mathlib.Omega.{arith}
 use lib.Bits.{bitAnd, and-le-l}
@@ -18,16 +18,13 @@ use Rattle.rules.specs.declared.Entry.{Entry}
 use Rattle.rules.specs.declared.Loaded.the-variants.{Accepted as accepted}
 use Rattle.rules.specs.Numbers.{sum}
 use Rattle.rules.specs.Parameter.{Values as Column, numbers, ifInMask, minToMax, rowOf}
-use Rattle.rules.specs.Descriptor.{maskBytes}
+use Rattle.rules.specs.Descriptor.{maskBytes, entryLimit}
 use Rattle.rules.specs.Load.{loadOf, rwEntries}
 use Rattle.rules.specs.Place.{nothing}
 use Rattle.rules.specs.Accept.{within, fromBits, signedByte}
 use Rattle.rules.specs.Demands.{Accepted}
 use Rattle.rules.proofs.Basics.Tests.{by-test, and₂, both-true}
-use Rattle.rules.proofs.Load.Checks.{decode-passed}
-use Rattle.rules.proofs.Load.Fills.{Filled, rw-filled}
-use Rattle.rules.proofs.Load.EntryHeads.{strings-short}
-use Rattle.rules.proofs.Load.Walks.{load-accepted}
+use Rattle.rules.proofs.Load.Walks.{load-few, load-accepted}
 use Rattle.descriptor.specs.Rows.{lowIn, highIn}
 use Rattle.descriptor.specs.Find.{lowest, highest, codeBits, lowOf, highOf, listedIn, namedOf}
 use Rattle.descriptor.specs.Marks.{markAfter, Passable}
@@ -130,21 +127,6 @@ lines-at f (suc n) list h i l = go (ℕ-discrete i n) (λ k. lines-at f n list (
     go (yes e) r = rw e (getD-set-same (lines f n list) n _ [] (omega (arith, lines-length f n list)))
     go (no ne) r = getD-set-other (lines f n list) n i _ [] ne ∙ r (omega arith)
 
--- an entry has at least 4 bytes
-filled-few : (ro : Bool) (a : ℕ) (s : List ℕ) (from : ℕ) (l : List Entry) → 1 ≤ a → Filled ro a s from l → from + 4 * length l ≤ length s
-filled-few ro a s from [] h g = omega (arith, g)
-filled-few ro a s from (e ∷ l) h g =
-    let p = decode-passed ro a s from (g .0 .st) e (g .0 .passes) in
-    omega (arith, p .long, filled-few ro a s (from + e .length) l h (g .1))
-
-mask-low : (count : ℕ) → 1 ≤ maskBytes count
-unfolding maskBytes
-mask-low count = by-test (λ n. 1 ≤ n) (leb count 8) 1 2 (λ _. omega arith) (λ _. omega arith)
-
-pub rw-few : (count : ℕ) (first last : List ℕ) → Accepted count first last → length (rwEntries count first) ≤ 30
-rw-few count first last ok =
-    omega (arith, filled-few false (maskBytes count) first 0 (rwEntries count first) (mask-low count) (rw-filled count first last ok), strings-short count first last ok .0)
-
 -- the load's entries, from the list that a pass over the RW string has written
 module _ (count : ℕ) (first last : List ℕ) (n k c t : ℕ) (h : loadOf count first last ≡ accepted n k c t) where
   ok : Accepted count first last
@@ -156,8 +138,8 @@ module _ (count : ℕ) (first last : List ℕ) (n k c t : ℕ) (h : loadOf count
   law : Marked (maskBytes count) first 0 (rwEntries count first)
   law = marked count first last ok false
 
-  pub entries-few : n ≤ 30
-  entries-few = omega (arith, rw-few count first last ok, all)
+  pub entries-few : n ≤ entryLimit
+  entries-few = omega (arith, load-few count first last ok, all)
 
   pub entries-pass : Passable (maskBytes count) first 0 n
   entries-pass i l = law .on i (omega (arith, all))

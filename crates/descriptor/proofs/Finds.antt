@@ -10,9 +10,9 @@ use borrow.Author.Tests.{eq-eqb, not-false}
 use Rattle.rules.specs.declared.Refusal.{Refusal}
 use Rattle.rules.specs.declared.Refusal.the-variants.{Plain as plain}
 use Rattle.rules.specs.Descriptor.{maskBytes, entryAt}
-use Rattle.rules.specs.Load.{Map, sized, mapOf}
+use Rattle.rules.specs.Load.{Map, sized, mapOf, readOf}
 use Rattle.rules.specs.Place.{entry, isRW, isLane, hasField, partsOf, widthOf, signedOf}
-use Rattle.rules.specs.Refuse.{Verdict, passes, refuses, refuseIf, firstOf, check9, check1to7, orderOf}
+use Rattle.rules.specs.Refuse.{Verdict, passes, refuses, refuseIf, firstOf, check9, checkEntries, orderOf}
 use Rattle.rules.specs.Beside.{entryVerdict}
 use Rattle.rules.specs.Demands.{Accepted}
 use Rattle.rules.proofs.Basics.Tests.{and₂, from-true}
@@ -60,11 +60,11 @@ module _ (count : ℕ) (first last : List ℕ) {e p i : ℕ} {f : Named} (z : In
   step-is q = ap (λ (x : Named). x .step) (sym (z .is)) ∙ rw (eq-eqb (entry (mapOf count first last) e .id) 0x12 q) refl
 
 -- a call whose bank is not too short is refused as one that takes none
-pub no-check8 : (count : ℕ) (first last : List ℕ) (rest : List Verdict) → toldOrder count first last false rest ≡ orderOf count first last rest
+pub no-check8 : (count : ℕ) (first last : List ℕ) (rest : List Verdict) → toldOrder count first last false rest ≡ orderOf (readOf count first last) rest
 unfolding toldOrder orderOf
-no-check8 count first last rest = go (check9 count first last)
+no-check8 count first last rest = go (check9 (readOf count first last))
   where
-    go : (v : Verdict) → firstOf (v ∷ passes ∷ check1to7 count first last ∷ rest) ≡ firstOf (v ∷ check1to7 count first last ∷ rest)
+    go : (v : Verdict) → firstOf (v ∷ passes ∷ checkEntries (readOf count first last) ∷ rest) ≡ firstOf (v ∷ checkEntries (readOf count first last) ∷ rest)
     go passes = refl
     go (refuses r) = refl
 
@@ -110,7 +110,7 @@ module _ (count : ℕ) (first last : List ℕ) (short : Bool) (e p i : ℕ) wher
 
   module _ (l : short ≡ false) where
     fieldVerdict : Verdict
-    fieldVerdict = orderOf count first last (refuseIf (not (hasField m e p i)) (plain 10) ∷ [])
+    fieldVerdict = orderOf (readOf count first last) (refuseIf (not (hasField m e p i)) (plain 10) ∷ [])
 
     verdict : foundOf count first last short e p i ≡ found fieldVerdict (isIn named)
     unfolding foundOf fieldVerdict
@@ -118,19 +118,19 @@ module _ (count : ℕ) (first last : List ℕ) (short : Bool) (e p i : ℕ) wher
 
     pub located-refused-found : (r : Refusal) → locatedOf count first last e ≡ nowhere r → notFound r ≡ foundOf count first last short e p i
     unfolding locatedOf entryVerdict orderOf fieldVerdict
-    located-refused-found r h = ap (λ v. found v (isIn named)) (sym (go (entryVerdict count first last e) refl h)) ∙ sym verdict
+    located-refused-found r h = ap (λ v. found v (isIn named)) (sym (go (entryVerdict (readOf count first last) e) refl h)) ∙ sym verdict
       where
-        go : (v : Verdict) → entryVerdict count first last e ≡ v
+        go : (v : Verdict) → entryVerdict (readOf count first last) e ≡ v
             → located v (at (not (isRW m e)) (entry m e .start) (entry m e .length) (entry m e .offset)) ≡ nowhere r
             → fieldVerdict ≡ refuses r
         go passes z q = let o : _≡_ {A = ℕ} 0 1 = cc in absurd (omega arith)
-        go (refuses r′) z q = let y : r′ ≡ r = cc in entry-first (check9 count first last) (check1to7 count first last) (ltb e (length (m .entries))) (ltb p (partsOf (entry m e)) && isLane i) r (z ∙ ap refuses y)
+        go (refuses r′) z q = let y : r′ ≡ r = cc in entry-first (check9 (readOf count first last)) (checkEntries (readOf count first last)) (ltb e (length (m .entries))) (ltb p (partsOf (entry m e)) && isLane i) r (z ∙ ap refuses y)
 
     -- the bytes at its start say what it is
     module _ (x : Bool) (s n o : ℕ) (h : locatedOf count first last e ≡ at x s n o) where
-      passed : entryVerdict count first last e ≡ passes
+      passed : entryVerdict (readOf count first last) e ≡ passes
       unfolding locatedOf
-      passed = go (entryVerdict count first last e) h
+      passed = go (entryVerdict (readOf count first last) e) h
         where
           go : (v : Verdict) → located v (at (not (isRW m e)) (entry m e .start) (entry m e .length) (entry m e .offset)) ≡ at x s n o → v ≡ passes
           go passes q = refl
@@ -138,7 +138,7 @@ module _ (count : ℕ) (first last : List ℕ) (short : Bool) (e p i : ℕ) wher
 
       tested : fieldVerdict ≡ firstOf (refuseIf (not (ltb p (named .parts) && isLane i)) (plain 10) ∷ [])
       unfolding entryVerdict orderOf fieldVerdict namedOf
-      tested = entry-passes (check9 count first last) (check1to7 count first last) (ltb e (length (m .entries))) _ passed
+      tested = entry-passes (check9 (readOf count first last)) (checkEntries (readOf count first last)) (ltb e (length (m .entries))) _ passed
 
       held : heldIn named p i ≡ foundOf count first last short e p i
       unfolding heldIn
@@ -175,7 +175,7 @@ module _ (count : ℕ) (first last : List ℕ) (short : Bool) (e p i : ℕ) wher
     pub found-refused :
         (r : Refusal)
         → foundOf count first last short e p i ≡ notFound r
-        → orderOf count first last (refuseIf (not (hasField (mapOf count first last) e p i)) (plain 10) ∷ []) ≡ refuses r
+        → orderOf (readOf count first last) (refuseIf (not (hasField (mapOf count first last) e p i)) (plain 10) ∷ []) ≡ refuses r
     unfolding fieldVerdict
     found-refused r h = found-stops fieldVerdict named r (sym verdict ∙ h)
 

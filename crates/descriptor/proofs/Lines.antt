@@ -12,19 +12,19 @@ use Rattle.rules.specs.declared.Decoded.{Decoded}
 use Rattle.rules.specs.declared.Decoded.the-variants.{Entry as decoded, Refused as failed}
 use Rattle.rules.specs.declared.Walked.the-variants.{Ended as ended, Refused as stopped}
 use Rattle.rules.specs.declared.Refusal.the-variants.{AtEntry as atEntry}
-use Rattle.rules.specs.Descriptor.{entryAt, decodeAt}
-use Rattle.rules.specs.Load.{next, foldBy, foldOf, onward, walkOf, gather, entriesFrom}
+use Rattle.rules.specs.Descriptor.{entryAt, decodeAt, limited}
+use Rattle.rules.specs.Load.{next, foldBy, foldOf, onward, gather, entriesFrom, entriesWithin, walkWithin}
 use Rattle.rules.specs.MapProgram.{entryLines}
 use Rattle.rules.proofs.Load.Checks.{Passed, decode-passed}
 use Rattle.rules.proofs.Load.Folds.{Folded, begin, turn, done, out, more, done-by, turn-by}
 use Rattle.descriptor.specs.declared.decode.Decoding.the-variants.{Refused as stops}
-use Rattle.descriptor.specs.Decode.{decodingOf}
+use Rattle.descriptor.specs.Decode.{decodingOf, Numbered}
 use Rattle.descriptor.specs.Text.{Put, entryLine, Listing}
 use Rattle.descriptor.proofs.Puts.{put-then, put-most}
-use Rattle.descriptor.proofs.Scan.{Went}
+use Rattle.descriptor.proofs.Scan.{numbered-next, Went}
 
 abbrev rest : Bool → ℕ → ℕ → List ℕ → ℕ → State → List Entry
-rest ro a fuel s at st = foldBy gather (λ _. []) ro a fuel s at st
+rest ro a fuel s at st = foldBy limited gather (λ _. []) ro a fuel s at st
 
 record Lined (ro : Bool) (a : ℕ) (s : List ℕ) (st₀ : State) (at : ℕ) (st : State) (text : List ℕ) : Type 0 where
   fuel : ℕ
@@ -32,7 +32,7 @@ record Lined (ro : Bool) (a : ℕ) (s : List ℕ) (st₀ : State) (at : ℕ) (st
   same : entryLines (st₀ .number) (entriesFrom ro a s 0 st₀) ≡ text ++ entryLines (st .number) (rest ro a fuel s at st)
 
 lined-begin : (ro : Bool) (a : ℕ) (s : List ℕ) (st : State) → Lined ro a s st 0 st []
-unfolding entriesFrom foldOf
+unfolding entriesWithin foldOf
 lined-begin ro a s st = record { fuel = length s; enough = omega arith; same = refl }
 
 none-left : (n : ℕ) (text : List ℕ) (l : List Entry) → l ≡ [] → text ++ entryLines n l ≡ text
@@ -81,16 +81,18 @@ pub record Writing (ro : Bool) (a : ℕ) (s : List ℕ) (st₀ : State) (at : �
   pub folded : Folded onward ended ro a s 0 st₀ from st
   pub put : Put (4 * from) at text before place after
   pub inside : from ≤ length s
+  pub numbers : Numbered st
   pub sum : st .sum ≤ 256
 
-pub writing-begin : (ro : Bool) (a : ℕ) (s : List ℕ) (st : State) (at : ℕ) (b : List ℕ) → st .sum ≤ 256 → Writing ro a s st at b 0 st at b
-writing-begin ro a s st at b h =
+pub writing-begin : (ro : Bool) (a : ℕ) (s : List ℕ) (st : State) (at : ℕ) (b : List ℕ) → Numbered st → st .sum ≤ 256 → Writing ro a s st at b 0 st at b
+writing-begin ro a s st at b n h =
     record {
       text = [];
       lined = lined-begin ro a s st;
       folded = begin onward ended ro a s 0 st;
       put = record { next = omega arith; room = omega arith; bytes = refl };
       inside = omega arith;
+      numbers = n;
       sum = h;
     }
 
@@ -98,7 +100,7 @@ module _ {ro : Bool} {a : ℕ} {s : List ℕ} {st₀ : State} {at : ℕ} {before
     (w : Writing ro a s st₀ at before from st place after) where
   -- no byte is left
   pub writing-end : length s ≤ from → Listing ro a s st₀ at before place st after
-  unfolding walkOf
+  unfolding walkWithin
   writing-end h =
       record {
         put = rw (lined-end (w .lined) h) (put-most (4 * length s) (omega (arith, w .inside)) (w .put));
@@ -108,7 +110,7 @@ module _ {ro : Bool} {a : ℕ} {s : List ℕ} {st₀ : State} {at : ℕ} {before
   module _ (h : from < length s) where
     -- an entry that fails a check
     pub writing-stop : (n : ℕ) → decodeAt ro a s from st ≡ failed n → Listing ro a s st₀ at before place st after
-    unfolding walkOf
+    unfolding walkWithin
     writing-stop n d =
         record {
           put = rw (lined-stop (w .lined) h n d) (put-most (4 * length s) (omega (arith, w .inside)) (w .put));
@@ -137,5 +139,6 @@ module _ {ro : Bool} {a : ℕ} {s : List ℕ} {st₀ : State} {at : ℕ} {before
           folded = turn (w .folded) h e d (λ _. refl);
           put = rw (k .entry) (put-most (4 * (from + entryAt a s from (st .sum) .length)) (omega (arith, rw (k .entry) at (k .long))) (put-then (w .put) p));
           inside = omega (arith, k .within);
+          numbers = numbered-next e (w .numbers);
           sum = k .sum;
         })

@@ -11,7 +11,7 @@ use Rattle.rules.specs.declared.Refusal.the-variants.{Plain as plain}
 use Rattle.rules.specs.declared.Loaded.the-variants.{Accepted as accepted, Refused as rejected}
 use Rattle.rules.specs.declared.Answer.the-variants.{Yes as saysYes, Refused as refused}
 use Rattle.rules.specs.Descriptor.{maskBytes, byteAt}
-use Rattle.rules.specs.Load.{Map, loadOf, mapOf}
+use Rattle.rules.specs.Load.{Map, loadOf, mapOf, readOf}
 use Rattle.rules.specs.Place.{entry, isRW}
 use Rattle.rules.specs.Refuse.{Verdict, passes, refuses}
 use Rattle.rules.specs.Beside.{entryVerdict, answered, entryAnswer, ownBytes, partOr, entryBytes}
@@ -35,13 +35,13 @@ module _ (count : ℕ) (first last : List ℕ) (e : ℕ) where
     ok : Accepted count first last
     ok = accepts count first last n k c t h
 
-    verdict-found : e < n + k → entryVerdict count first last e ≡ passes
+    verdict-found : e < n + k → entryVerdict (readOf count first last) e ≡ passes
     unfolding entryVerdict
     verdict-found l = order-accepted count first last ok _ ∙ rw (lt-ltb e (length (mapOf count first last .entries)) (rw (all-count count first last n k c t h) l)) refl
 
     -- entry i of a string
     module _ (inRO : Bool) (i : ℕ) (l : i < cond inRO k n) (q : e ≡ cond inRO (n + i) i) where
-      found : entryVerdict count first last e ≡ passes
+      found : entryVerdict (readOf count first last) e ≡ passes
       found = verdict-found (go inRO l q)
         where
           go : (b : Bool) → i < cond b k n → e ≡ cond b (n + i) i → e < n + k
@@ -84,7 +84,7 @@ module _ (count : ℕ) (first last : List ℕ) (e : ℕ) where
   -- the entry call's answer, from where its entry stands
   pub located-yes : (x : Bool) (s l o : ℕ) → locatedOf count first last e ≡ at x s l o → saysYes ≡ entryAnswer count first last e
   unfolding locatedOf entryAnswer
-  located-yes x s l o h = go (entryVerdict count first last e) _ h
+  located-yes x s l o h = go (entryVerdict (readOf count first last) e) _ h
     where
       go : (v : Verdict) (y : Located) → located v y ≡ at x s l o → saysYes ≡ answered v saysYes
       go passes y q = refl
@@ -92,7 +92,7 @@ module _ (count : ℕ) (first last : List ℕ) (e : ℕ) where
 
   pub located-no : (r : Refusal) → locatedOf count first last e ≡ nowhere r → refused r ≡ entryAnswer count first last e
   unfolding locatedOf entryAnswer
-  located-no r h = go (entryVerdict count first last e) _ _ _ _ h
+  located-no r h = go (entryVerdict (readOf count first last) e) _ _ _ _ h
     where
       go : (v : Verdict) (x : Bool) (s l o : ℕ) → located v (at x s l o) ≡ nowhere r → refused r ≡ answered v saysYes
       go passes x s l o q = let z : _≡_ {A = ℕ} 0 1 = cc in absurd (omega arith)
@@ -101,7 +101,7 @@ module _ (count : ℕ) (first last : List ℕ) (e : ℕ) where
   -- refused, an empty part
   pub located-empty : (r : Refusal) → locatedOf count first last e ≡ nowhere r → [] ≡ entryBytes count first last e
   unfolding locatedOf entryBytes
-  located-empty r h = go (entryVerdict count first last e) _ _ _ _ _ h
+  located-empty r h = go (entryVerdict (readOf count first last) e) _ _ _ _ _ h
     where
       go : (v : Verdict) (b : List ℕ) (x : Bool) (s l o : ℕ) → located v (at x s l o) ≡ nowhere r → [] ≡ partOr v b
       go passes b x s l o q = let z : _≡_ {A = ℕ} 0 1 = cc in absurd (omega arith)
@@ -117,7 +117,7 @@ module _ (count : ℕ) (first last : List ℕ) (e : ℕ) where
   m = mapOf count first last
 
   passes-span :
-      entryVerdict count first last e ≡ passes
+      entryVerdict (readOf count first last) e ≡ passes
       → Span (cond (isRW m e) first last) (entry m e .start) (entry m e .length) (ownBytes (cond (isRW m e) first last) (entry m e))
   passes-span h =
       let (ok, l) = verdict-passes count first last e h in
@@ -125,13 +125,13 @@ module _ (count : ℕ) (first last : List ℕ) (e : ℕ) where
 
   pub located-span : (x : Bool) (s l o : ℕ) → locatedOf count first last e ≡ at x s l o → Span (cond x last first) s l (entryBytes count first last e)
   unfolding locatedOf entryBytes
-  located-span x s l o h = go (entryVerdict count first last e) refl h
+  located-span x s l o h = go (entryVerdict (readOf count first last) e) refl h
     where
       flip : (b : Bool) → cond (not b) last first ≡ cond b first last
       flip true = refl
       flip false = refl
 
-      go : (v : Verdict) → entryVerdict count first last e ≡ v
+      go : (v : Verdict) → entryVerdict (readOf count first last) e ≡ v
           → located v (at (not (isRW m e)) (entry m e .start) (entry m e .length) (entry m e .offset)) ≡ at x s l o
           → Span (cond x last first) s l (partOr v (ownBytes (cond (isRW m e) first last) (entry m e)))
       go passes p q =

@@ -11,7 +11,7 @@ use borrow.Author.Tests.{eq-eqb, ne-eqb}
 use Rattle.rules.specs.declared.State.{State}
 use Rattle.rules.specs.declared.Refusal.the-variants.{Plain as plain}
 use Rattle.rules.specs.declared.Walked.the-variants.{Ended as ended}
-use Rattle.rules.specs.Descriptor.{maskBytes, byteAt}
+use Rattle.rules.specs.Descriptor.{maskBytes, byteAt, entryLimit}
 use Rattle.rules.specs.Load.{start, intoRO, walkOf, sized, loadOf, entriesOf}
 use Rattle.rules.specs.Demands.{Accepted}
 use Rattle.rules.specs.MapProgram.{rwSize, roSize, rwBytes, roBytes, heading, endLine, refusedLine, mapText, mapOutput}
@@ -29,7 +29,7 @@ pub record Sizes (first last : List ℕ) : Type 0 where
 
 -- the state at the end of the RW string
 pub record Middle (st : State) : Type 0 where
-  pub number : st .number ≤ 120
+  pub number : st .number ≤ entryLimit
   pub sum : st .sum ≤ 256
 
 module _ (count : ℕ) (first last : List ℕ) (ok : Accepted count first last) where
@@ -48,7 +48,7 @@ module _ (count : ℕ) (first last : List ℕ) (ok : Accepted count first last) 
     pub middle : Middle m
     middle =
         let (x, y, z) = walk-counts false (maskBytes count) first 0 start m (omega arith) to-middle in
-        record { number = omega (arith, sizes .rw); sum = z }
+        record { number = y; sum = z }
 
     module _ {r₂ : ℕ} {b₃ : List ℕ} {e : State} (two : Listing true (maskBytes count) last (intoRO m) r₁ b₂ r₂ e b₃) where
       to-end : walkOf true (maskBytes count) last 0 (intoRO m) ≡ ended e
@@ -58,7 +58,7 @@ module _ (count : ℕ) (first last : List ℕ) (ok : Accepted count first last) 
           w ∙ ap ended (sym (two .ends (loaded .end) w))
 
       pub end-sum : e .sum ≤ 256
-      end-sum = walk-counts true (maskBytes count) last 0 (intoRO m) e (middle .sum) to-end .2
+      end-sum = walk-counts true (maskBytes count) last 0 m e (middle .sum) to-end .2
 
       -- heading, both strings' lines and end, one after the other
       pub map-printed :

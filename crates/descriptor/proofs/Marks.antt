@@ -12,7 +12,7 @@ use lib.Dec.{leb}
 use Rattle.rules.specs.declared.Entry.{Entry}
 use Rattle.rules.specs.declared.Loaded.the-variants.{Accepted as accepted}
 use Rattle.rules.specs.Descriptor.{maskBytes, byteAt}
-use Rattle.rules.specs.Load.{loadOf, rwEntries, roEntries, entriesOf, total, mapOf}
+use Rattle.rules.specs.Load.{loadOf, rwEntries, roEntries, total, mapOf, bothWithin, mapWithin}
 use Rattle.rules.specs.Place.{nothing, entry}
 use Rattle.rules.specs.Demands.{Accepted, lengths}
 use Rattle.rules.proofs.Basics.Tests.{by-test}
@@ -99,7 +99,7 @@ unfolding maskBytes
 mask-top count = by-test (λ n. n ≤ 2) (leb count 8) 1 2 (λ _. omega arith) (λ _. omega arith)
 
 ro-good : (count : ℕ) (rw ro : List ℕ) → Accepted count rw ro → Good (total (rwEntries count rw)) (roEntries count rw ro)
-unfolding entriesOf
+unfolding bothWithin
 ro-good count first last ok =
     rw zero-add at (good-later 0 (rwEntries count first) (roEntries count first last) (load-accepted count first last _ _ _ _ (ok .loads) .good))
 
@@ -124,15 +124,15 @@ module _ (count : ℕ) (first last : List ℕ) (n k c t : ℕ) (h : loadOf count
   a = load-accepted count first last n k c t h
 
   pub rw-count : mapOf count first last .rwCount ≡ n
-  unfolding mapOf
+  unfolding mapWithin
   rw-count = sym (a .rwCount)
 
   pub all-count : length (mapOf count first last .entries) ≡ n + k
-  unfolding mapOf entriesOf
+  unfolding mapWithin bothWithin
   all-count = omega (arith, a .rwCount, a .roCount, length-append (rwEntries count first) (roEntries count first last))
 
   pub active-is : mapOf count first last .active ≡ t
-  unfolding mapOf
+  unfolding mapWithin
   active-is = sym (a .active)
 
   -- the entries of a string
@@ -145,7 +145,7 @@ module _ (count : ℕ) (first last : List ℕ) (n k c t : ℕ) (h : loadOf count
   law false = marked count first last accepts false
 
   numbered : (inRO : Bool) (i : ℕ) → i < cond inRO k n → getD (cond inRO (roEntries count first last) (rwEntries count first)) i nothing ≡ entry (mapOf count first last) (cond inRO (n + i) i)
-  unfolding mapOf entriesOf
+  unfolding mapWithin bothWithin
   numbered true i l = sym (rw (a .rwCount) (getD-append-add (rwEntries count first) (roEntries count first last) i nothing))
   numbered false i l = sym (List·getD-append (rwEntries count first) (roEntries count first last) nothing i (rw (← a .rwCount) l))
 
@@ -161,6 +161,6 @@ module _ (count : ℕ) (first last : List ℕ) (n k c t : ℕ) (h : loadOf count
 
   -- past all of a string's entries
   pub string-ends : (inRO : Bool) → markAfter (maskBytes count) (cond inRO last first) (cond inRO c 0) (cond inRO k n) .sum ≡ cond inRO t c
-  unfolding entriesOf
+  unfolding bothWithin
   string-ends true = rw (its true) at (law true .ends) ∙ omega (arith, a .staged, a .active, total-append (rwEntries count first) (roEntries count first last))
   string-ends false = rw (its false) at (law false .ends) ∙ omega (arith, a .staged)

@@ -7,7 +7,7 @@ use lib.ListN.{length}
 use lib.Dec.{ltb, leb}
 use Rattle.rules.specs.declared.Entry.{Entry}
 use Rattle.rules.specs.Descriptor.{byteAt}
-use Rattle.rules.specs.Load.{Map, mapOf}
+use Rattle.rules.specs.Load.{Map, mapOf, readOf}
 use Rattle.rules.specs.Place.{entry, isRW, partsOf, widthOf}
 use Rattle.rules.specs.Refuse.{Verdict, passes, refuses, orderOf}
 use Rattle.descriptor.specs.declared.Covered.{Covered}
@@ -37,7 +37,7 @@ covered (refuses r) x = notCovered r
 
 -- refused as the load is
 unfoldable pub coverOf : ℕ → List ℕ → List ℕ → ℕ → Covered
-coverOf count rw ro k = covered (orderOf count rw ro []) (coverIn (mapOf count rw ro) k)
+coverOf count rw ro k = covered (orderOf (readOf count rw ro) []) (coverIn (mapOf count rw ro) k)
 
 -- past entries whose spaces end at byte k or before it: all n of a string, or up to one whose space ends past it
 pub record Hits (a : ℕ) (s : List ℕ) (sum n k : ℕ) (h : Hit) : Type 0 where

@@ -2,13 +2,13 @@
 use mathlib.Core.Path.{_≡_}
 use mathlib.Core.Bool.{Bool, true, false, _&&_, not}
 use mathlib.Core.List.{List}
-use Prim.Native.Nat.{ℕ, _+_, _-_, _/_, _%_, _≤_, _<_}
+use Prim.Native.Nat.{ℕ, _+_, _-_, _*_, _/_, _%_, _≤_, _<_}
 use lib.ListN.{length, getD}
 use lib.Dec.{ltb, leb, eqb}
 use Rattle.rules.specs.declared.State.{State}
 use Rattle.rules.specs.declared.Decoded.{Decoded}
 use Rattle.rules.specs.declared.Decoded.the-variants.{Entry as decoded, Refused as failed}
-use Rattle.rules.specs.Descriptor.{byteAt, reserved}
+use Rattle.rules.specs.Descriptor.{byteAt, reserved, entryLimit}
 use Rattle.rules.specs.Load.{next}
 use Rattle.descriptor.specs.declared.decode.Decoding.{Decoding}
 use Rattle.descriptor.specs.declared.decode.Decoding.the-variants.{Past as past, Refused as stops}
@@ -38,6 +38,11 @@ standsBy side false = eqb (side % 2) 1
 abbrev pub lateBy : ℕ → Bool → Bool → Bool
 lateBy id media passed = leb 2 id && (leb id 8 && (not media && passed))
 
+-- the number of a string's first entry, in a walk of it
+pub record Numbered (st : State) : Type 0 where
+  pub begun : st .first ≤ st .number
+  pub first : st .first ≤ entryLimit
+
 -- a place of a string at which an entry is decoded
 pub record Walking (table : List ℕ) (rowTable : List (List ℕ)) (a : ℕ) (s : List ℕ) (at : ℕ) (st : State) : Type 0 where
   pub classes-is : table ≡ classes
@@ -46,15 +51,15 @@ pub record Walking (table : List ℕ) (rowTable : List (List ℕ)) (a : ℕ) (s 
   pub mask-top : a ≤ 2
   pub inside : at < length s
   pub short : length s ≤ 120
-  pub number : st .number ≤ 1000
+  pub numbers : Numbered st
   pub sum : st .sum ≤ 256
 
--- the same past 1 and 2, with the row of the entry's ID
+-- the same past 16, 1 and 2, with the row of the entry's ID
 pub record Standing (row : List ℕ) (a : ℕ) (s : List ℕ) (at : ℕ) (st : State) : Type 0 where
   pub row-is : row ≡ rowAt (byteAt s at)
   pub mask-low : 1 ≤ a
   pub mask-top : a ≤ 2
   pub room : at + getD row 0 0 + a ≤ length s
   pub short : length s ≤ 120
-  pub number : st .number ≤ 1000
+  pub number : st .number < 2 * entryLimit
   pub sum : st .sum ≤ 256

@@ -11,10 +11,10 @@ use Rattle.rules.specs.declared.Entry.{Entry}
 use Rattle.rules.specs.declared.Refusal.the-variants.{Plain as plain}
 use Rattle.rules.specs.Numbers.{sum}
 use Rattle.rules.specs.Parameter.{Range, Values, numbers, ifInMask, minToMax, rowOf}
-use Rattle.rules.specs.Load.{mapOf}
+use Rattle.rules.specs.Load.{mapOf, readOf}
 use Rattle.rules.specs.Place.{entry, isRW, isLane, hasField, partsOf, widthOf, signedOf}
 use Rattle.rules.specs.Accept.{within, inMask, signedByte}
-use Rattle.rules.specs.Refuse.{Verdict, passes, refuses, refuseIf, firstOf, check9, check1to7}
+use Rattle.rules.specs.Refuse.{Verdict, passes, refuses, refuseIf, firstOf, check9, checkEntries}
 use Rattle.rules.specs.Demands.{Accepted}
 use Rattle.descriptor.specs.declared.Found.{Found}
 use Rattle.descriptor.specs.declared.Found.the-variants.{In as isIn, Refused as notFound}
@@ -92,7 +92,7 @@ found (refuses r) x = notFound r
 
 -- the order of a call that is told whether its bank is too short
 unfoldable pub toldOrder : ℕ → List ℕ → List ℕ → Bool → List Verdict → Verdict
-toldOrder count rw ro short rest = firstOf (check9 count rw ro ∷ refuseIf short (plain 8) ∷ check1to7 count rw ro ∷ rest)
+toldOrder count rw ro short rest = firstOf (check9 (readOf count rw ro) ∷ refuseIf short (plain 8) ∷ checkEntries (readOf count rw ro) ∷ rest)
 
 -- 10: an entry, part or lane that doesn't exist
 unfoldable pub foundOf : ℕ → List ℕ → List ℕ → Bool → ℕ → ℕ → ℕ → Found

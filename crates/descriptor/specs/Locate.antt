@@ -2,7 +2,7 @@
 use mathlib.Core.Bool.{not}
 use mathlib.Core.List.{List}
 use Prim.Native.Nat.{ℕ}
-use Rattle.rules.specs.Load.{mapOf}
+use Rattle.rules.specs.Load.{mapOf, readOf}
 use Rattle.rules.specs.Place.{entry, isRW}
 use Rattle.rules.specs.Refuse.{Verdict, passes, refuses}
 use Rattle.rules.specs.Beside.{entryVerdict}
@@ -16,7 +16,7 @@ located (refuses r) x = nowhere r
 unfoldable pub locatedOf : ℕ → List ℕ → List ℕ → ℕ → Located
 locatedOf count rw ro e =
     located
-    (entryVerdict count rw ro e)
+    (entryVerdict (readOf count rw ro) e)
     (at
     (not (isRW (mapOf count rw ro) e))
     (entry (mapOf count rw ro) e .start)

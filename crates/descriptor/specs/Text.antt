@@ -5,6 +5,7 @@ use mathlib.Core.List.{List, [], _∷_, _++_}
 use Prim.Native.Nat.{ℕ, _+_, _*_, _≤_, _<_}
 use lib.ListN.{length, drop}
 use lib.Seq.{sets}
+use Rattle.rules.specs.Descriptor.{entryLimit}
 use Rattle.rules.specs.declared.Entry.{Entry}
 use Rattle.rules.specs.declared.State.{State}
 use Rattle.rules.specs.declared.Walked.the-variants.{Ended as ended}
@@ -31,7 +32,7 @@ entryLine n e = decimal n ++ line (e .id ∷ e .offset ∷ e .memory ∷ [])
 pub record Printable (a : ℕ) (s : List ℕ) (at : ℕ) (st : State) : Type 0 where
   pub inside : at + 2 + a < length s
   pub short : length s ≤ 120
-  pub number : st .number < 1000
+  pub number : st .number < 2 * entryLimit
   pub sum : st .sum < 1000
 
 -- the lines of a string are written, each of at most 16 bytes for an entry of at least 4; the state is that of the string's end

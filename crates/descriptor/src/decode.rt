@@ -1,9 +1,9 @@
-// One entry of a walk: the checks 1 to 7, once for every walk.
+// One entry of a walk: its checks, 16 and 1 to 7, once for every walk.
 ghost use mathlib.Core.Path.{_≡_};
-ghost use Prim.Native.Nat.{_<_, _+_};
+ghost use Prim.Native.Nat.{_<_, _+_, _-_, _*_};
 ghost use lib.ListN.{length};
 ghost use lib.Dec.{ltb};
-ghost use Rattle.rules.specs.Descriptor.{byteAt, mediaSide, entryAt, contentChecks, decodeAt};
+ghost use Rattle.rules.specs.Descriptor.{byteAt, mediaSide, entryAt, lengthChecks, contentChecks, entryLimit, decodeAt};
 ghost use Rattle.descriptor.specs.Decode.{decodingOf, StepIn, reservedBy, standsBy, lateBy, Walking, Standing};
 use crate::rows::class_of;
 use crate::state::next;
@@ -11,6 +11,7 @@ use crate::table::LAST_STEP;
 use crate::table::LEAST;
 use crate::table::NEEDED;
 use crate::table::SIDE;
+use rules::ENTRY_LIMIT;
 use rules::State;
 
 // Past an entry, with the place and the state after it, or the number of the first check that it fails.
@@ -98,8 +99,8 @@ fn content(row: [u8; 4], in_ro: bool, a: usize, s: &[u8], at: usize, st: State) 
     Decoding::Past(at + (s[at + 1] as usize), next(st, memory, media))
 }
 
-// The entry at a place: 1 and 2, then 3 to 7.
-pub fn decode(
+// 1 and 2, then 3 to 7, for the entry at a place.
+fn checked(
     classes: &[u8; 19],
     rows: &[[u8; 4]; 11],
     in_ro: bool,
@@ -109,7 +110,8 @@ pub fn decode(
     st: State,
 ) -> Decoding
     requires { ⌜ Walking (now classes) (now rows) a (now s) at st ⌝ }
-    ensures { λ r. ⌜ r ≡ decodingOf at st (decodeAt in_ro a (now (s .entry)) at st) ⌝ }
+    requires { ⌜ st .number < 2 * entryLimit ⌝ }
+    ensures { λ r. ⌜ r ≡ decodingOf at st (lengthChecks a (length (now (s .entry)) - at) (entryAt a (now (s .entry)) at (st .sum)) (contentChecks in_ro st (entryAt a (now (s .entry)) at (st .sum)))) ⌝ }
 {
     if at + 1 == s.len() {
         return Decoding::Refused(1);
@@ -123,4 +125,23 @@ pub fn decode(
         return Decoding::Refused(2);
     }
     content(row, in_ro, a, s, at, st)
+}
+
+// The entry at a place: 16, then 1 to 7.
+pub fn decode(
+    classes: &[u8; 19],
+    rows: &[[u8; 4]; 11],
+    in_ro: bool,
+    a: usize,
+    s: &[u8],
+    at: usize,
+    st: State,
+) -> Decoding
+    requires { ⌜ Walking (now classes) (now rows) a (now s) at st ⌝ }
+    ensures { λ r. ⌜ r ≡ decodingOf at st (decodeAt in_ro a (now (s .entry)) at st) ⌝ }
+{
+    if ENTRY_LIMIT <= st.number - st.first {
+        return Decoding::Refused(16);
+    }
+    checked(classes, rows, in_ro, a, s, at, st)
 }

@@ -17,7 +17,7 @@ pub mod columns; // the columns of an entry's line
 mod table; // the table of IDs
 mod rows; // the class of an ID
 mod state; // what a walk keeps
-mod decode; // one entry: the checks 1 to 7
+mod decode; // one entry: its checks
 mod walk; // one string
 mod reading; // one entry: what a call needs of it
 mod search; // an entry by its number, and by a byte of its space
@@ -41,6 +41,7 @@ use crate::walk::in_limits;
 use crate::walk::refused;
 use crate::walk::scan;
 use rules::Answer;
+use rules::ENTRY_LIMIT;
 use rules::Loaded;
 use rules::Refusal;
 use rules::Walked;
@@ -196,7 +197,7 @@ fn held(f: Named, part: usize, lane: usize) -> Found
     Found::Refused(Refusal::Plain(10))
 }
 
-// The field of an entry, part and lane, for a call that is told whether its bank is too short: 9, 8, then 1 to 7, and 10 for an
+// The field of an entry, part and lane, for a call that is told whether its bank is too short: 9, 8, then 16 and 1 to 7, and 10 for an
 // entry, part or lane that doesn't exist.
 pub fn find(
     count: usize,
@@ -237,9 +238,8 @@ pub fn find(
     }
 }
 
-// The load, and the line of each RW entry in a lent list, entry n at index n; refused, the list stays. An entry has at least 4 bytes,
-// so a string of 120 has at most 30.
-pub fn entries(count: usize, rw: &[u8], ro: &[u8], list: &mut [[u16; 9]; 30]) -> Loaded
+// The load, and the line of each RW entry in a lent list, entry n at index n; refused, the list stays.
+pub fn entries(count: usize, rw: &[u8], ro: &[u8], list: &mut [[u16; 9]; ENTRY_LIMIT]) -> Loaded
     ensures answer { λ r. ⌜ r ≡ loadOf count (now (rw .entry)) (now (ro .entry)) ⌝ }
     ensures lines { λ _. ⌜ now (list .exit) ≡ listOf (loadOf count (now (rw .entry)) (now (ro .entry))) (rwEntries count (now (rw .entry))) (now (list .entry)) ⌝ }
 {

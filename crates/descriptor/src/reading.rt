@@ -1,7 +1,7 @@
 // The reading of an entry: what a call needs of the one that it names, and a line for each RW entry. The walks read less.
 ghost use mathlib.Core.Path.{_≡_};
 ghost use Prim.Native.Nat.{_≤_, _<_};
-ghost use Rattle.rules.specs.Descriptor.{byteAt, highFirst, entryAt};
+ghost use Rattle.rules.specs.Descriptor.{byteAt, highFirst, entryAt, entryLimit};
 ghost use Rattle.descriptor.specs.Rows.{Shapes};
 ghost use Rattle.descriptor.specs.Wide.{Pair, PairAt, limitBy, stepBy};
 ghost use Rattle.descriptor.specs.Find.{namedOf};
@@ -17,6 +17,7 @@ use crate::table::PARTS;
 use crate::table::SHAPES;
 use crate::table::WIDTH;
 use crate::table::values_of;
+use rules::ENTRY_LIMIT;
 
 // A byte of a string as a number, 0 past its end.
 fn byte_from(s: &[u8], at: usize) -> usize
@@ -141,8 +142,8 @@ fn line_at(classes: &[u8; 19], shapes: &[[u8; 2]; 11], a: usize, s: &[u8], mark:
 }
 
 // The lines of the first n entries of the RW string.
-pub fn lines_at(a: usize, s: &[u8], n: usize, list: &mut [[u16; 9]; 30])
-    requires { ⌜ (1 ≤ a) × (a ≤ 2) × (n ≤ 30) × Passable a (now s) 0 n ⌝ }
+pub fn lines_at(a: usize, s: &[u8], n: usize, list: &mut [[u16; 9]; ENTRY_LIMIT])
+    requires { ⌜ (1 ≤ a) × (a ≤ 2) × (n ≤ entryLimit) × Passable a (now s) 0 n ⌝ }
     ensures { λ _. ⌜ now (list .exit) ≡ lines (λ i. lineAt a (now (s .entry)) (markAfter a (now (s .entry)) 0 i)) n (now (list .entry)) ⌝ }
 {
     let classes = CLASSES;

@@ -1,9 +1,10 @@
--- The demands of document 01 and where each is proved. Open this file first; the statements are in specs/Demands.antt.
-use Rattle.rules.specs.Demands.{Demand1, Demand2, Demand3, Demand3-after-fresh, Twelve}
+-- The demands of document 01, what 02 says of its notes, and where each is proved. Open this file first; the statements are in specs/Demands.antt.
+use Rattle.rules.specs.Demands.{Demand1, Demand2, Demand3, Demand3-after-fresh, Note7, Twelve}
 use Rattle.rules.proofs.Refusals.AllRefusals.{refusals}
 use Rattle.rules.proofs.Place.PlaceOwner.{both-ways}
 use Rattle.rules.proofs.Lists.Lists.{lists-agree}
 use Rattle.rules.proofs.Lists.Fresh.{lists-agree-after-fresh}
+use Rattle.rules.proofs.Load.Limits.{as-before}
 use Rattle.rules.proofs.Worked.Settings.{settings}
 
 -- a call is refused exactly by the first rule of 01's order that applies, and then changes no byte
@@ -20,6 +21,10 @@ demand3 = lists-agree
 
 pub demand3-after-fresh : Demand3-after-fresh
 demand3-after-fresh = lists-agree-after-fresh
+
+-- strings of at most 16 entries each are read as before note 7, and every call on them is what it was
+pub note7 : Note7
+note7 = as-before
 
 -- P1 to P12
 pub twelve : Twelve

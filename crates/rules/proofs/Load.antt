@@ -7,4 +7,5 @@ pub mod Fills
 pub mod EntryHeads
 pub mod EntryBytes
 pub mod LoadNumber
+pub mod Limits
 pub mod ReaderWalk

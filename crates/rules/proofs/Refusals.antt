@@ -5,6 +5,7 @@ pub mod CallOrder
 pub mod Firsts
 pub mod EntryRules
 pub mod MediaSide
+pub mod EntryNumbers
 pub mod Stops
 pub mod PlanRules
 pub mod OrderRules

@@ -8,7 +8,7 @@ use lib.ListN.{length, getD, set, replicate, drop}
 use Rattle.rules.specs.Words.{Loaded, rejected, Call, select, write, read, byteWrite, byteRead, publish, apply, Answer, saysYes, number}
 use Rattle.rules.specs.Numbers.{cut, sum, any}
 use Rattle.rules.specs.Descriptor.{isApp, hasApp}
-use Rattle.rules.specs.Load.{Map, loadOf, mapOf}
+use Rattle.rules.specs.Load.{Map, Reading, loadOn, readOf}
 use Rattle.rules.specs.Place.{entry, partsOf, widthOf, signedOf, fieldByte, fieldBit, Owner, field, gap, ownerOf}
 use Rattle.rules.specs.Accept.{accepts, toBits, fromBits}
 use Rattle.rules.specs.Layout.{bankSize, setStart, appSelAt}
@@ -110,10 +110,12 @@ bankDoes m (publish e p i v) b = (saysYes, withNumber m b 2 e p i v)
 -- "copied to the active set"
 bankDoes m (apply s lanes) b = (saysYes, applyBank m s lanes b)
 
--- a call on a bank
+-- a call on a bank: "All calls read the strings anew"
+abbrev pub bankCallOn : Reading → Call → Bank → Answer × Bank
+bankCallOn r c b = decide (bankOrder r (length b) (judge (r .map) c ++ bankPlan (r .map) c b)) b (bankDoes (r .map) c b)
+
 unfoldable pub bankCall : ℕ → List ℕ → List ℕ → Call → Bank → Answer × Bank
-bankCall count rw ro c b =
-    decide (bankOrder count rw ro (length b) (judge (mapOf count rw ro) c ++ bankPlan (mapOf count rw ro) c b)) b (bankDoes (mapOf count rw ro) c b)
+bankCall count rw ro c b = bankCallOn (readOf count rw ro) c b
 
 -- "clears the 784 bytes"; "Longer buffers are untouched beyond."
 unfoldable pub freshBank : Bank → Bank
@@ -124,8 +126,11 @@ abbrev pub freshened : Verdict → Loaded → Bank → Loaded × Bank
 freshened passes answer b = (answer, freshBank b)
 freshened (refuses r) answer b = (rejected r, b)
 
+abbrev pub freshOn : Reading → Bank → Loaded × Bank
+freshOn r b = freshened (bankOrder r (length b) []) (loadOn r) b
+
 unfoldable pub freshCall : ℕ → List ℕ → List ℕ → Bank → Loaded × Bank
-freshCall count rw ro b = freshened (bankOrder count rw ro (length b) []) (loadOf count rw ro) b
+freshCall count rw ro b = freshOn (readOf count rw ro) b
 
 -- what the bank makes of each thing that a list holds
 unfoldable pub bankMakes : ℕ → List ℕ → List ℕ → Command → Bank → Answer × Bank

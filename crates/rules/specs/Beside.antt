@@ -1,11 +1,12 @@
--- "Beside demand 3": place, owner, the entry call with the call beside it, and weight. None of them writes a byte.
+-- "Beside demand 3": place, owner, the entry call with the call beside it, and weight. None of them writes a byte. Each is said of what
+-- is read of the strings.
 use mathlib.Core.Bool.{Bool, _&&_, not, cond}
 use mathlib.Core.List.{List, [], _∷_}
 use Prim.Native.Nat.{ℕ}
 use lib.ListN.{length, take, drop}
 use lib.Dec.{ltb, eqb}
 use Rattle.rules.specs.Words.{plain, Entry, read, Answer, saysYes, number, refused, Placed, placedAt, notPlaced, Owned, ownedBy, noOwner, notOwned}
-use Rattle.rules.specs.Load.{Map, mapOf}
+use Rattle.rules.specs.Load.{Map, Reading, readOf}
 use Rattle.rules.specs.Place.{entry, isSet, isRW, isLane, lengthOf, fieldByte, fieldBit, Owner, field, gap, ownerOf}
 use Rattle.rules.specs.Accept.{weightOf}
 use Rattle.rules.specs.Refuse.{Verdict, passes, refuses, refuseIf, orderOf, bankOrder, judge}
@@ -16,11 +17,12 @@ abbrev pub placed : Verdict → Placed → Placed
 placed passes x = x
 placed (refuses r) x = notPlaced r
 
+abbrev pub placeOn : Reading → ℕ → ℕ → ℕ → ℕ → Placed
+placeOn r s e p i =
+    placed (orderOf r (judge (r .map) (read s e p i))) (placedAt (fieldByte (entry (r .map) e) p i) (fieldBit (entry (r .map) e) i))
+
 unfoldable pub placeOf : ℕ → List ℕ → List ℕ → ℕ → ℕ → ℕ → ℕ → Placed
-placeOf count rw ro s e p i =
-    placed
-    (orderOf count rw ro (judge (mapOf count rw ro) (read s e p i)))
-    (placedAt (fieldByte (entry (mapOf count rw ro) e) p i) (fieldBit (entry (mapOf count rw ro) e) i))
+placeOf count rw ro s e p i = placeOn (readOf count rw ro) s e p i
 
 -- "owner (set, offset, bit 0 to 7) answers entry, part and lane, or gap"; 10: a set, offset or bit that doesn't exist
 abbrev pub ownedAs : Owner → Owned
@@ -34,23 +36,26 @@ owned (refuses r) x = notOwned r
 abbrev pub isBit : Map → ℕ → ℕ → ℕ → Bool
 isBit m s k q = isSet s && (ltb k (lengthOf m s) && ltb q 8)
 
+abbrev pub ownerOn : Reading → ℕ → ℕ → ℕ → Owned
+ownerOn r s k q = owned (orderOf r (refuseIf (not (isBit (r .map) s k q)) (plain 10) ∷ [])) (ownedAs (ownerOf (r .map) s k q))
+
 unfoldable pub ownerCall : ℕ → List ℕ → List ℕ → ℕ → ℕ → ℕ → Owned
-ownerCall count rw ro s k q =
-    owned
-    (orderOf count rw ro (refuseIf (not (isBit (mapOf count rw ro) s k q)) (plain 10) ∷ []))
-    (ownedAs (ownerOf (mapOf count rw ro) s k q))
+ownerCall count rw ro s k q = ownerOn (readOf count rw ro) s k q
 
 -- the entry call; 10: an entry that doesn't exist
-unfoldable pub entryVerdict : ℕ → List ℕ → List ℕ → ℕ → Verdict
-entryVerdict count rw ro e = orderOf count rw ro (refuseIf (not (ltb e (length (mapOf count rw ro .entries)))) (plain 10) ∷ [])
+unfoldable pub entryVerdict : Reading → ℕ → Verdict
+entryVerdict r e = orderOf r (refuseIf (not (ltb e (length (r .map .entries)))) (plain 10) ∷ [])
 
 abbrev pub answered : Verdict → Answer → Answer
 answered passes x = x
 answered (refuses r) x = refused r
 
 -- "a call beside it gives the number"
+abbrev pub entryAnswerOn : Reading → ℕ → Answer
+entryAnswerOn r e = answered (entryVerdict r e) saysYes
+
 unfoldable pub entryAnswer : ℕ → List ℕ → List ℕ → ℕ → Answer
-entryAnswer count rw ro e = answered (entryVerdict count rw ro e) saysYes
+entryAnswer count rw ro e = entryAnswerOn (readOf count rw ro) e
 
 -- "hands back that entry's own bytes, as a part of the lent string (refused: an empty part ..)"
 abbrev pub ownBytes : List ℕ → Entry → List ℕ
@@ -60,19 +65,22 @@ abbrev pub partOr : Verdict → List ℕ → List ℕ
 partOr passes l = l
 partOr (refuses r) l = []
 
+abbrev pub entryBytesOn : Reading → List ℕ → List ℕ → ℕ → List ℕ
+entryBytesOn r rw ro e = partOr (entryVerdict r e) (ownBytes (cond (isRW (r .map) e) rw ro) (entry (r .map) e))
+
 unfoldable pub entryBytes : ℕ → List ℕ → List ℕ → ℕ → List ℕ
-entryBytes count rw ro e =
-    partOr
-    (entryVerdict count rw ro e)
-    (ownBytes (cond (isRW (mapOf count rw ro) e) rw ro) (entry (mapOf count rw ro) e))
+entryBytes count rw ro e = entryBytesOn (readOf count rw ro) rw ro e
 
 -- "weight (12h entry, lane) answers the active number times 10, 20, 25 or 40 for step 0 to 3, in thousandths";
 -- 10: an entry or lane that doesn't exist, "weight of other than 12h"
 abbrev pub isWeighed : Map → ℕ → ℕ → Bool
 isWeighed m e i = ltb e (length (m .entries)) && (eqb (entry m e .id) 0x12 && isLane i)
 
-unfoldable pub weightCall : ℕ → List ℕ → List ℕ → Bank → ℕ → ℕ → Answer
-weightCall count rw ro b e i =
+abbrev pub weightOn : Reading → Bank → ℕ → ℕ → Answer
+weightOn r b e i =
     answered
-    (bankOrder count rw ro (length b) (refuseIf (not (isWeighed (mapOf count rw ro) e i)) (plain 10) ∷ []))
-    (number (weightOf (entry (mapOf count rw ro) e .step) (numberIn (mapOf count rw ro) b 2 e 0 i)))
+    (bankOrder r (length b) (refuseIf (not (isWeighed (r .map) e i)) (plain 10) ∷ []))
+    (number (weightOf (entry (r .map) e .step) (numberIn (r .map) b 2 e 0 i)))
+
+unfoldable pub weightCall : ℕ → List ℕ → List ℕ → Bank → ℕ → ℕ → Answer
+weightCall count rw ro b e i = weightOn (readOf count rw ro) b e i

@@ -4,7 +4,7 @@ use mathlib.Core.Path.{_≡_}
 use mathlib.Core.Logic.{_⊎_}
 use mathlib.Core.Bool.{Bool, true, false}
 use mathlib.Core.List.{List, [], _∷_}
-use Prim.Native.Nat.{ℕ, _+_, _-_, _%_, _≤_, _<_}
+use Prim.Native.Nat.{ℕ, suc, _+_, _-_, _%_, _≤_, _<_}
 use lib.ListN.{length}
 use lib.Dec.{T}
 use Rattle.rules.specs.Words.{Refusal, plain, atEntry, atLane, Entry, decoded, failed, State, Call, select, write, read, byteWrite, byteRead, publish, apply}
@@ -29,7 +29,7 @@ abbrev pub First : {A : Type 0} → List (Rule A) → A → Type 0
 First [] x = ⊥
 First {A} (rule ∷ rules) x = rule x ⊎ (((y : A) → ¬ (rule y)) × First rules x)
 
--- The module's maker: 1 to 7 "Within an entry, in this order"
+-- The module's maker: 1 to 7 "Within an entry, in this order"; 02, note 7: 16 "before the other checks of that entry"
 
 -- 3: "01h to 10h only in RW, 11h and 12h only in RO"
 abbrev pub WrongString : Bool → ℕ → Type 0
@@ -47,7 +47,8 @@ entryRules ro a s at st =
     let id : ℕ = byteAt s at in
     let size : ℕ = byteAt s (at + 1) in
     let memory : ℕ = byteAt s (at + 2 + a) in
-    gives 1 ((left ≡ 1) ⊎ (left < size))
+    gives 16 (16 ≤ st .number - st .first)
+    ∷ gives 1 ((left ≡ 1) ⊎ (left < size))
     ∷ gives 2 (BelowLeast a id size)
     ∷ gives 3 (WrongString ro id)
     ∷ gives 4 (BelowNeeded id memory)
@@ -69,6 +70,11 @@ pub data Way (ro : Bool) (a : ℕ) (s : List ℕ) (to : ℕ) (end : State) : ℕ
 abbrev pub PastMedia : {ro : Bool} {a : ℕ} {s : List ℕ} {to : ℕ} {end : State} {from : ℕ} {st : State} → Way ro a s to end from st → Type 0
 PastMedia here = ⊥
 PastMedia {a} {s} (past {at} e l d w) = MediaSide a s at ⊎ PastMedia w
+
+-- the entries that it goes past
+abbrev pub entriesPast : {ro : Bool} {a : ℕ} {s : List ℕ} {to : ℕ} {end : State} {from : ℕ} {st : State} → Way ro a s to end from st → ℕ
+entriesPast here = 0
+entriesPast (past e l d w) = suc (entriesPast w)
 
 -- "The first entry that fails any check ends the load; its entry number is answered too."
 pub record Stops (ro : Bool) (a : ℕ) (s : List ℕ) (from : ℕ) (begin : State) (x : Refusal) : Type 0 where
@@ -174,7 +180,7 @@ planRules m (apply s lanes) b =
     ∷ (λ x. (i : ℕ) × (x ≡ atLane 14 i) × Lowest (HoldsBad m b s lanes) i)
     ∷ []
 
--- "Order: 9, 8, 1 to 7, 10, 11, then 12, or 13 before 14."
+-- "Order: 9, 8, 1 to 7, 10, 11, then 12, or 13 before 14.", 16 with 1 to 7
 abbrev pub callRules : Map → Call → List (Rule Refusal)
 callRules m c = gives (plain 10) (¬ (Exists m c)) ∷ gives (plain 11) (Misdirected m c) ∷ gives (plain 12) (Unaccepted m c) ∷ []
 

@@ -1,26 +1,27 @@
--- The statements: the three demands and the twelve settings. proofs/Demands.antt proves each.
+-- The statements: the three demands, what 02 says of its notes, and the twelve settings. proofs/Demands.antt proves each.
 use mathlib.Core.Path.{_≡_}
 use mathlib.Core.Logic.{_↔_}
 use mathlib.Core.Bool.{Bool, true, false, _||_, cond}
 use mathlib.Core.List.{List, [], _∷_, _++_}
-use Prim.Native.Nat.{ℕ, _+_, _-_, _≤_, _<_}
+use Prim.Native.Nat.{ℕ, suc, _+_, _-_, _≤_, _<_}
 use lib.IntN.{ℤ, pos, negsuc}
 use lib.ListN.{length, getD, take, drop}
 use lib.Dec.{T, eqb}
-use Rattle.rules.specs.Words.{Refusal, plain, atEntry, Entry, failed, State, accepted, rejected, Call, read, Answer, refused, placedAt, notPlaced, ownedBy, noOwner, notOwned, noMore, notTaken}
+use Rattle.rules.specs.Words.{Refusal, plain, atEntry, Entry, decoded, failed, State, ended, accepted, rejected, Call, read, Answer, refused, placedAt, notPlaced, ownedBy, noOwner, notOwned, noMore, notTaken}
 use Rattle.rules.specs.Numbers.{cut}
-use Rattle.rules.specs.Descriptor.{maskBytes, hasApp, byteAt, entryAt, decodeAt}
-use Rattle.rules.specs.Load.{start, Map, loadOf, rwEntries, roEntries, total, mapOf}
+use Rattle.rules.specs.Descriptor.{maskBytes, hasApp, byteAt, entryAt, unlimited, decodeAt}
+use Rattle.rules.specs.Load.{start, intoRO, Turn, Map, Reading, foldOf, walkWithin, readWithin, loadOn, loadOf, rwEntries, roEntries, total, mapOf}
 use Rattle.rules.specs.Place.{nothing, entry, partsOf, widthOf, signedOf, isRW, lengthOf, holds, fieldByte, fieldBit, covers}
 use Rattle.rules.specs.Accept.{accepts, toBits, fromBits, weightOf}
 use Rattle.rules.specs.Layout.{bankSize, HasBytes, setStart}
-use Rattle.rules.specs.Bank.{Bank, numberIn, appSelIn, bankCall, freshCall, bankMakes}
-use Rattle.rules.specs.Table.{Table, freshTable, tableMakes}
+use Rattle.rules.specs.Bank.{Bank, numberIn, appSelIn, bankCallOn, bankCall, freshOn, freshCall, bankMakes}
+use Rattle.rules.specs.Table.{Table, freshTable, tableCallOn, tableCall, tableMakes}
 use Rattle.rules.specs.Machine.{Command, run}
-use Rattle.rules.specs.Beside.{placeOf, ownerCall, entryAnswer, entryBytes, weightCall}
+use Rattle.rules.specs.Beside.{placeOn, placeOf, ownerOn, ownerCall, entryAnswerOn, entryAnswer, entryBytesOn, entryBytes, weightOn, weightCall}
+use Rattle.rules.specs.MapProgram.{rwBytes, roBytes, outputBy, mapOutput}
 use Rattle.rules.specs.Reader.{takeOf}
 use Rattle.rules.specs.Columns.{Accepts, Shaped, TwosComplement, ExtrasRead}
-use Rattle.rules.specs.Conditions.{gives, First, entryRules, Way, PastMedia, Lane, planRules, callRules, stringRules, bankRules, ReaderSized, readerRules}
+use Rattle.rules.specs.Conditions.{gives, First, entryRules, Way, PastMedia, entriesPast, Lane, planRules, callRules, stringRules, bankRules, ReaderSized, readerRules}
 
 -- DEMAND 1: "A refused call gives the number that 01's order picks, changes no byte, and does its own checking."
 
@@ -32,11 +33,14 @@ pub record Keeps (b after : Bank) (isRefused : Type 0) : Type 0 where
 
 -- any strings, any count, any bank
 pub record Refusals (count : ℕ) (rw ro : List ℕ) (b : Bank) : Type 0 where
-  -- one entry, at any place of a string of any content, at any state: the first check that it fails, in the order 1 to 7
+  -- one entry, at any place of a string of any content, at any state: the first check that it fails, in the order 16, 1 to 7
   pub one-entry : (inRO : Bool) (a : ℕ) (s : List ℕ) (at : ℕ) (st : State) (n : ℕ)
       → (decodeAt inRO a s at st ≡ failed n) ↔ First (entryRules inRO a s at st) n
   -- "after a media-side table entry of the RW string": what the state of a walk says is what the bytes that it went past say
   pub media : (a : ℕ) (s : List ℕ) (at : ℕ) (st : State) (w : Way false a s at st 0 start) → (st .media ≡ true) ↔ PastMedia w
+  -- "a 17th entry", of either string by itself, and "its entry number": the state of a walk counts the entries that it went past
+  pub numbers : (inRO : Bool) (a : ℕ) (s : List ℕ) (at : ℕ) (st before : State) (w : Way inRO a s at st 0 (intoRO before))
+      → (st .number - st .first ≡ entriesPast w) × (st .number ≡ before .number + entriesPast w)
   -- the calls of demand 3, fresh, and the calls beside: a refusal is answered exactly if it is the first in 01's order
   pub call : (c : Call) (x : Refusal)
       → (bankCall count rw ro c b .0 ≡ refused x) ↔ First (bankRules count rw ro b (callRules (mapOf count rw ro) c ++ planRules (mapOf count rw ro) c b)) x
@@ -136,6 +140,8 @@ pub record OwnerAndPlace (count : ℕ) (rw ro : List ℕ) : Type 0 where
   pub loads :
       loadOf count rw ro
       ≡ accepted (length (rwEntries count rw)) (length (roEntries count rw ro)) (total (rwEntries count rw)) (total (rwEntries count rw ++ roEntries count rw ro))
+  -- 02, note 7: 16 entries are "the limit for each string .. so that the target card can hold its map"
+  pub few : (length (rwEntries count rw) ≤ 16) × (length (roEntries count rw ro) ≤ 16)
   -- "An entry's offset is the sum of the MemoryLengths before it."
   pub offsets : (e : ℕ) → e < length (mapOf count rw ro .entries) → entry (mapOf count rw ro) e .offset ≡ total (take e (mapOf count rw ro .entries))
   -- "hands back that entry's own bytes"
@@ -207,6 +213,48 @@ pub record FreshAccepted (count : ℕ) (rw ro : List ℕ) (bank : Bank) : Type 0
 abbrev pub Demand3-after-fresh : Type 0
 Demand3-after-fresh =
     (count : ℕ) (rw ro bank : List ℕ) → FreshAccepted count rw ro bank → (calls : List Command) → ListAgrees count rw ro bank calls
+
+-- 02, NOTE 7: "Whoever lends two strings of at most 16 entries each sees the same answers as before."
+
+-- how many entries of a string a walk without a limit comes to, the one that fails a check among them
+abbrev pub tally : Turn ℕ
+tally (decoded e) st k = suc (k e)
+tally (failed n) st k = 1
+
+abbrev pub comesTo : Bool → ℕ → List ℕ → State → ℕ
+comesTo inRO a s begin = foldOf unlimited tally (λ _. 0) inRO a s 0 begin
+
+-- "two strings of at most 16 entries each": the RO string is read if the RW string's walk ends
+pub record AtMost16 (count : ℕ) (rw ro : List ℕ) : Type 0 where
+  pub in-rw : comesTo false (maskBytes count) rw start ≤ 16
+  pub in-ro : (middle : State)
+      → walkWithin unlimited false (maskBytes count) rw 0 start ≡ ended middle
+      → comesTo true (maskBytes count) ro (intoRO middle) ≤ 16
+
+-- what was read of the strings before there was a limit
+abbrev pub readBefore : ℕ → List ℕ → List ℕ → Reading
+readBefore = readWithin unlimited
+
+-- load, map and every call, its answer and the bank after it
+pub record AsBefore (count : ℕ) (rw ro : List ℕ) : Type 0 where
+  pub load : loadOf count rw ro ≡ loadOn (readBefore count rw ro)
+  pub map : mapOf count rw ro ≡ readBefore count rw ro .map
+  pub call : (c : Call) (b : Bank) → bankCall count rw ro c b ≡ bankCallOn (readBefore count rw ro) c b
+  pub fresh : (b : Bank) → freshCall count rw ro b ≡ freshOn (readBefore count rw ro) b
+  pub table : (c : Call) (t : Table) → tableCall count rw ro c t ≡ tableCallOn (readBefore count rw ro) c t
+  pub place : (s e p i : ℕ) → placeOf count rw ro s e p i ≡ placeOn (readBefore count rw ro) s e p i
+  pub owner : (s k q : ℕ) → ownerCall count rw ro s k q ≡ ownerOn (readBefore count rw ro) s k q
+  pub own-entry : (e : ℕ) → entryAnswer count rw ro e ≡ entryAnswerOn (readBefore count rw ro) e
+  pub own-part : (e : ℕ) → entryBytes count rw ro e ≡ entryBytesOn (readBefore count rw ro) rw ro e
+  pub weight : (b : Bank) (e i : ℕ) → weightCall count rw ro b e i ≡ weightOn (readBefore count rw ro) b e i
+  pub program : (input : List ℕ)
+      → byteAt input 0 ≡ count
+      → rwBytes input ≡ rw
+      → roBytes input ≡ ro
+      → mapOutput input ≡ outputBy readBefore input
+
+abbrev pub Note7 : Type 0
+Note7 = (count : ℕ) (rw ro : List ℕ) → AtMost16 count rw ro → AsBefore count rw ro
 
 -- the twelve settings, each of any entry that has the ID, offset or code mask named
 pub record Twelve : Type 0 where

@@ -1,4 +1,4 @@
--- "What a module advertises": the bytes of one entry; and "Refusals": the checks 1 to 7 of one entry, in their order.
+-- "What a module advertises": the bytes of one entry; and "Refusals": the checks of one entry, 16 and 1 to 7, in their order.
 use mathlib.Core.Bool.{Bool, true, false, _&&_, _||_, not, cond}
 use mathlib.Core.List.{List, [], _∷_}
 use Prim.Native.Nat.{ℕ, zero, suc, _+_, _-_, _*_, _%_}
@@ -136,6 +136,29 @@ contentChecks ro st e =
     (refuse (ltb 256 (st .sum + e .memory)) 7
     (decoded e)))))
 
--- one entry: what stands at a place of a string, for a walk that keeps a state
-unfoldable pub decodeAt : Bool → ℕ → List ℕ → ℕ → State → Decoded
-decodeAt ro a s at st = lengthChecks a (length s - at) (entryAt a s at (st .sum)) (contentChecks ro st (entryAt a s at (st .sum)))
+-- how many entries a string may have: any number, as 01 has it, or up to one
+pub data Limit : Type 0 where
+  unlimited : Limit
+  upTo : ℕ → Limit
+
+-- 02, note 7: "In all modules delivered so far the longest string has 16 entries. That becomes the limit for each string"
+abbrev pub entryLimit : ℕ
+entryLimit = 16
+
+abbrev pub limited : Limit
+limited = upTo entryLimit
+
+-- 16: "a 17th entry", before which as many as the limit stand in its string
+abbrev pub full : Limit → State → Bool
+full unlimited st = false
+full (upTo n) st = leb n (st .number - st .first)
+
+-- one entry: what stands at a place of a string, for a walk that keeps a state; 16 is "given before the other checks of that entry"
+unfoldable pub decodeWithin : Limit → Bool → ℕ → List ℕ → ℕ → State → Decoded
+decodeWithin limit ro a s at st =
+    refuse (full limit st) 16
+    (lengthChecks a (length s - at) (entryAt a s at (st .sum))
+    (contentChecks ro st (entryAt a s at (st .sum))))
+
+abbrev pub decodeAt : Bool → ℕ → List ℕ → ℕ → State → Decoded
+decodeAt = decodeWithin limited

@@ -6,7 +6,7 @@ use lib.ListN.{length, take, drop}
 use lib.Dec.{ltb, eqb}
 use Rattle.rules.specs.Words.{Refusal, plain, numberOf, Entry, Loaded, accepted, rejected}
 use Rattle.rules.specs.Descriptor.{byteAt}
-use Rattle.rules.specs.Load.{loadOf, entriesOf}
+use Rattle.rules.specs.Load.{Reading, loadOn, readOf}
 
 -- "It reads standard input: count, RW size, RW bytes, RO size, RO bytes, and no more; a size is one byte."
 abbrev pub rwSize : List ℕ → ℕ
@@ -62,10 +62,10 @@ mapText (accepted rwCount roCount staged active) entries = heading ++ (entryLine
 mapText (rejected r) entries = refusedLine r
 
 -- "Input that is short or long prints `refused 9`; another refusal prints its number so."
+abbrev pub outputBy : (ℕ → List ℕ → List ℕ → Reading) → List ℕ → List ℕ
+outputBy read input =
+    let r : Reading = read (byteAt input 0) (rwBytes input) (roBytes input) in
+    cond (isWhole input) (mapText (loadOn r) (r .map .entries)) (refusedLine (plain 9))
+
 unfoldable pub mapOutput : List ℕ → List ℕ
-mapOutput input =
-    cond (isWhole input)
-    (mapText
-    (loadOf (byteAt input 0) (rwBytes input) (roBytes input))
-    (entriesOf (byteAt input 0) (rwBytes input) (roBytes input)))
-    (refusedLine (plain 9))
+mapOutput input = outputBy readOf input

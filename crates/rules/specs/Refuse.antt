@@ -1,12 +1,13 @@
--- "Refusals by who causes them": what refuses a call, and the order. "Order: 9, 8, 1 to 7, 10, 11, then 12, or 13 before 14."
--- 1 to 12 follow from arguments, strings, count and bank size, and are said here once; 13 and 14 follow from a machine's state.
+-- "Refusals by who causes them": what refuses a call, and the order. "Order: 9, 8, 1 to 7, 10, 11, then 12, or 13 before 14."; 02,
+-- note 7: 16 comes with 1 to 7, entry by entry. All but 13 and 14 follow from arguments, strings, count and bank size, and are said here
+-- once; 13 and 14 follow from a machine's state.
 use mathlib.Core.Bool.{Bool, true, false, _&&_, _||_, not, cond}
 use mathlib.Core.List.{List, [], _∷_}
 use Prim.Native.Nat.{ℕ, _-_}
 use lib.Dec.{ltb, eqb}
 use Rattle.rules.specs.Words.{Refusal, plain, atLane, Loaded, accepted, rejected, Call, select, write, read, byteWrite, byteRead, publish, apply, Answer, refused}
 use Rattle.rules.specs.Numbers.{bitOf, lowest}
-use Rattle.rules.specs.Load.{Map, sized, stringsOf}
+use Rattle.rules.specs.Load.{Map, Reading}
 use Rattle.rules.specs.Place.{entry, isSet, isStaged, isRW, isLane, hasField, lengthOf}
 use Rattle.rules.specs.Accept.{accepts}
 use Rattle.rules.specs.Layout.{bankSize}
@@ -31,20 +32,20 @@ decide passes s done = done
 decide (refuses r) s done = (refused r, s)
 
 -- 9: "count not 1 to 15, or a string over 120"
-unfoldable pub check9 : ℕ → List ℕ → List ℕ → Verdict
-check9 count rw ro = refuseIf (not (sized count rw ro)) (plain 9)
+unfoldable pub check9 : Reading → Verdict
+check9 r = refuseIf (not (r .sized)) (plain 9)
 
 -- 8: "bank under 784 bytes (calls that take one)"
 unfoldable pub check8 : ℕ → Verdict
 check8 size = refuseIf (ltb size bankSize) (plain 8)
 
--- 1 to 7: "All calls read the strings anew and may give 1 to 7."
+-- 16 and 1 to 7: "All calls read the strings anew and may give 1 to 7."
 abbrev pub refusalOf : Loaded → Verdict
 refusalOf (accepted a b c d) = passes
 refusalOf (rejected r) = refuses r
 
-unfoldable pub check1to7 : ℕ → List ℕ → List ℕ → Verdict
-check1to7 count rw ro = refusalOf (stringsOf count rw ro)
+unfoldable pub checkEntries : Reading → Verdict
+checkEntries r = refusalOf (r .walked)
 
 -- 10: "a set, lane, entry, part, offset or bit that doesn't exist, or a field of an entry without that field".
 -- "An offset is judged against its own set's length."
@@ -89,9 +90,9 @@ chooses lanes i = bitOf lanes (i - 1)
 unfoldable pub atLowest : ℕ → (ℕ → Bool) → Verdict
 atLowest n f = cond (eqb (lowest 8 1 f) 0) passes (refuses (atLane n (lowest 8 1 f)))
 
--- the order for a call that takes a bank of a size, and for one that takes none; `rest` is what follows 1 to 7
-unfoldable pub bankOrder : ℕ → List ℕ → List ℕ → ℕ → List Verdict → Verdict
-bankOrder count rw ro size rest = firstOf (check9 count rw ro ∷ check8 size ∷ check1to7 count rw ro ∷ rest)
+-- the order for a call that takes a bank of a size, and for one that takes none; `rest` is what follows the checks of the entries
+unfoldable pub bankOrder : Reading → ℕ → List Verdict → Verdict
+bankOrder r size rest = firstOf (check9 r ∷ check8 size ∷ checkEntries r ∷ rest)
 
-unfoldable pub orderOf : ℕ → List ℕ → List ℕ → List Verdict → Verdict
-orderOf count rw ro rest = firstOf (check9 count rw ro ∷ check1to7 count rw ro ∷ rest)
+unfoldable pub orderOf : Reading → List Verdict → Verdict
+orderOf r rest = firstOf (check9 r ∷ checkEntries r ∷ rest)

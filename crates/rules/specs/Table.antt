@@ -8,7 +8,7 @@ use lib.Dec.{eqb}
 use Rattle.rules.specs.Words.{Entry, Call, select, write, read, byteWrite, byteRead, publish, apply, Answer, saysYes, number}
 use Rattle.rules.specs.Numbers.{cut, sum, any}
 use Rattle.rules.specs.Descriptor.{isApp, hasApp}
-use Rattle.rules.specs.Load.{Map, mapOf}
+use Rattle.rules.specs.Load.{Map, Reading, readOf}
 use Rattle.rules.specs.Place.{entry, partsOf, widthOf, signedOf, isRW, heldBy, holds, fieldByte, fieldBit}
 use Rattle.rules.specs.Accept.{accepts, toBits, fromBits}
 use Rattle.rules.specs.Refuse.{Verdict, decide, orderOf, judge, chooses, atLowest}
@@ -94,9 +94,11 @@ tableDoes m (apply s lanes) t =
     (saysYes, renumbered t λ s′ e p i. cond (changes m t s lanes s′ e p i) (t .numbers s e p i) (t .numbers s′ e p i))
 
 -- "A refused call changes none of its numbers; the refusal and its extras follow from the call's arguments and those three."
+abbrev pub tableCallOn : Reading → Call → Table → Answer × Table
+tableCallOn r c t = decide (orderOf r (judge (r .map) c ++ tablePlan (r .map) c t)) t (tableDoes (r .map) c t)
+
 unfoldable pub tableCall : ℕ → List ℕ → List ℕ → Call → Table → Answer × Table
-tableCall count rw ro c t =
-    decide (orderOf count rw ro (judge (mapOf count rw ro) c ++ tablePlan (mapOf count rw ro) c t)) t (tableDoes (mapOf count rw ro) c t)
+tableCall count rw ro c t = tableCallOn (readOf count rw ro) c t
 
 -- what the table makes of each thing that a list holds
 unfoldable pub tableMakes : ℕ → List ℕ → List ℕ → Command → Table → Answer × Table

@@ -11,6 +11,9 @@ pub const ACTIVE_START: usize = 512;
 
 pub const ACTIVE_END: usize = 768;
 
+// The most entries that a string may have.
+pub const ENTRY_LIMIT: usize = 16;
+
 // Where a set begins in a bank: the staged sets 0 and 1, and the active set.
 pub fn set_start(set: usize) -> usize
     ensures { λ r. ⌜ r ≡ setStart set ⌝ }
@@ -31,7 +34,7 @@ pub fn app_sel_start(set: usize) -> usize
     776
 }
 
-// A refusal: document 01's number alone (8 to 12, and all of the reader's), with the entry that it names (1 to 7), or with the
+// A refusal: document 01's number alone (8 to 12, and all of the reader's), with the entry that it names (1 to 7, 16), or with the
 // lane (13, 14).
 pub enum Refusal {
     Plain(usize),
@@ -61,10 +64,11 @@ pub enum Decoded {
     Refused(usize),
 }
 
-// What a walk keeps between two entries, beside its place in the string: the number of the next entry, the sum of the
-// MemoryLengths before it, and whether a media-side table entry has been passed.
+// What a walk keeps between two entries, beside its place in the string: the number of the next entry, that of the string's first
+// entry, the sum of the MemoryLengths before it, and whether a media-side table entry has been passed.
 pub struct State {
     pub number: usize,
+    pub first: usize,
     pub sum: usize,
     pub media: bool,
 }

@@ -64,7 +64,7 @@ flatTaken (taken s l) p = record { refusal = 0; end = 0; start = s; length = l; 
 flatTaken noMore p = record { refusal = 0; end = 1; start = 0; length = 0; position = p }
 flatTaken (notTaken r) p = record { refusal = reasonOf r .number; end = 0; start = 0; length = 0; position = p }
 
--- A call by its kind. A kind that doesn't exist is a set that doesn't exist: 10, after 9, 8 and 1 to 7.
+-- A call by its kind. A kind that doesn't exist is a set that doesn't exist: 10, after 9, 8 and the checks of the entries.
 unfoldable pub callOf : FlatCall → Call
 callOf c =
     cond (eqb (c .kind) 0) (select (c .set) (c .lane) (c .app))

@@ -31,7 +31,7 @@ use rules::Placed;
 use rules::Refusal;
 use rules::Taken;
 
-// A refusal: its number, and the entry (1 to 7) or the lane (13, 14) that it names, else 0. Number 0: accepted.
+// A refusal: its number, and the entry (1 to 7, 16) or the lane (13, 14) that it names, else 0. Number 0: accepted.
 pub struct Reason {
     pub number: usize,
     pub at: usize,

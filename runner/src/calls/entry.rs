@@ -5,13 +5,14 @@ use crate::engine::{self, Loaded, Located};
 use crate::peer;
 use crate::refusals;
 use crate::report::{Answer, Report};
+use crate::strings::MOST_ENTRIES;
 use crate::tally::Row;
 use std::fmt;
 
 pub static CALL: Row = Row::new("entry", refusals::ENTRY);
 
-/// Entry numbers that no map has: at most 60 entries of 4 bytes fit.
-const FAR: [usize; 8] = [60, 61, 120, 255, 256, 1 << 16, 1 << 32, usize::MAX];
+/// Entry numbers that no map has.
+const FAR: [usize; 8] = [2 * MOST_ENTRIES, 2 * MOST_ENTRIES + 1, 120, 255, 256, 1 << 16, 1 << 32, usize::MAX];
 
 /// An answer and the part of a lent string that it names: none where the part leaves the string.
 #[derive(PartialEq)]

@@ -14,7 +14,7 @@ use crate::report::Report;
 use crate::tally::Row;
 
 /// Every call, in the order of the table that is printed.
-pub const CALLS: [&Row; 23] = [
+pub const CALLS: [&Row; 24] = [
     &load::CALL,
     &entry::CALL,
     &place::CALL,
@@ -24,6 +24,7 @@ pub const CALLS: [&Row; 23] = [
     &take::CALL,
     &take::ENTRY,
     &take::END,
+    &take::LATE,
     &bank::FRESH,
     &bank::SELECT,
     &bank::WRITE,

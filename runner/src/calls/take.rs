@@ -5,7 +5,7 @@ use crate::engine::{self, Loaded, Taken};
 use crate::random::Random;
 use crate::refusals::{self, ACCEPTED};
 use crate::report::Report;
-use crate::strings::{RO, RW};
+use crate::strings::{MOST_ENTRIES, RO, RW};
 use crate::tally::Row;
 
 pub static CALL: Row = Row::new("take", refusals::TAKE);
@@ -13,6 +13,9 @@ pub static CALL: Row = Row::new("take", refusals::TAKE);
 /// What an accepted take gives.
 pub static ENTRY: Row = Row::new("take: entry", ACCEPTED);
 pub static END: Row = Row::new("take: end", ACCEPTED);
+
+/// Takes that are no end, after 16 from 0 on.
+pub static LATE: Row = Row::new("take: after 16 entries", refusals::TAKE.without(9));
 
 /// Counts on both sides of the limits of check 9 and of A.
 const COUNTS: [usize; 7] = [0, 1, 8, 9, 15, 16, usize::MAX];
@@ -58,12 +61,16 @@ fn compare_take(
 
 /// Takes from a string from 0 on, as long as entries come.
 fn compare_takes(report: &mut Report, count: usize, string: &[u8]) {
-    let mut position = 0;
-    while let Some(taken) = compare_take(report, count, string, position, None) {
-        if taken.refusal != 0 || taken.end == 1 {
+    let (mut position, mut entries) = (0, 0);
+    while let Some(taken) = compare_take(report, count, string, position, None).filter(|taken| taken.end == 0) {
+        if entries >= MOST_ENTRIES {
+            report.calls.count(&LATE, taken.refusal);
+        }
+        if taken.refusal != 0 {
             break;
         }
         position = taken.position;
+        entries += 1;
     }
 }
 

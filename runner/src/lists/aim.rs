@@ -152,7 +152,7 @@ impl Aim {
         if can.is_empty() {
             return;
         }
-        let Target { bytes, range, .. } = random.pick(&can);
+        let Target { bytes, range, .. } = random.pick_late(&can);
         let all = random.once_in(3);
         for offset in bytes.clone().filter(|_| all || random.once_in(2)) {
             let byte = match range {
@@ -223,7 +223,7 @@ impl Aim {
         if fields.is_empty() || random.once_in(6) {
             random.about(self.loaded.entries())
         } else {
-            random.pick(fields)
+            random.pick_late(fields)
         }
     }
 
@@ -248,7 +248,7 @@ impl Aim {
         if self.weights.is_empty() || random.once_in(4) {
             random.about(self.loaded.entries())
         } else {
-            random.pick(&self.weights)
+            random.pick_late(&self.weights)
         }
     }
 

@@ -1,11 +1,12 @@
 //! What the applies of the lists reached, counted so that a generator that misses its aim fails the run.
 
-use super::aim::{chosen, Aim};
+use super::aim::{chosen, Aim, Target};
 use crate::calls::bank::Agreed;
 use crate::case::Case;
 use crate::engine;
 use crate::refusals::{only, Numbers, ACCEPTED, COPIED, LANES};
 use crate::report::Report;
+use crate::strings::MOST_ENTRIES;
 use crate::tally::Row;
 
 /// An apply on a staged set of an accepted map that is accepted or refused with 13 or 14.
@@ -19,8 +20,8 @@ struct Look<'a> {
     changed: Vec<usize>,
     lacking: Vec<usize>,
     bad: Vec<usize>,
-    /// The IDs of the entries with a changed field, or with one of the named lane that is refused with 14.
-    ids: Vec<u8>,
+    /// The entries with a changed field, or with one of the named lane that is refused with 14.
+    by: Vec<&'a Target>,
     /// A changed field now holds a number below 0.
     negative: bool,
 }
@@ -48,9 +49,14 @@ impl Look<'_> {
         }
     }
 
-    /// A field of this ID changed, or none but such fields of the named lane are at fault.
+    /// A field of such an entry changed, or none but such fields of the named lane are at fault.
+    fn is_by_entry(&self, test: impl Fn(&Target) -> bool) -> bool {
+        let number = self.by.iter().filter(|target| test(target)).count();
+        number > 0 && (self.accepted() || number == self.by.len())
+    }
+
     fn is_by(&self, id: u8) -> bool {
-        self.ids.contains(&id) && (self.accepted() || self.ids.iter().all(|&other| other == id))
+        self.is_by_entry(|target| target.id == id)
     }
 
     fn app(&self, lane: usize) -> usize {
@@ -70,7 +76,7 @@ const fn reached(name: &'static str, numbers: Numbers, test: fn(&Look) -> bool) 
     (Row::new(name, numbers), test)
 }
 
-static REACHED: [Reached; 34] = [
+static REACHED: [Reached; 35] = [
     reached("apply: lane 1", LANES, |look| look.names(1)),
     reached("apply: lane 2", LANES, |look| look.names(2)),
     reached("apply: lane 3", LANES, |look| look.names(3)),
@@ -102,6 +108,7 @@ static REACHED: [Reached; 34] = [
     reached("apply: 0Eh", COPIED, |look| look.is_by(0x0E)),
     reached("apply: 0Fh", ACCEPTED, |look| look.is_by(0x0F)),
     reached("apply: 10h", ACCEPTED, |look| look.is_by(0x10)),
+    reached("apply: a 16th entry", COPIED, |look| look.is_by_entry(|target| target.entry == MOST_ENTRIES - 1)),
     reached("apply: below 0", ACCEPTED, |look| look.negative),
     // A chosen lane's field is not copied, since its entry's mask lacks the AppSel.
     reached("apply: a field kept", ACCEPTED, |look| {
@@ -122,7 +129,7 @@ pub fn rows() -> impl Iterator<Item = &'static Row> {
 /// Counts an apply on a staged set.
 pub fn count(report: &mut Report, case: &Case, aim: &Aim, set: usize, lanes: u8, agreed: &Agreed) {
     let [changed, lacking, bad] = [(); 3].map(|()| Vec::new());
-    let mut look = Look { case, aim, agreed, set, lanes, changed, lacking, bad, ids: Vec::new(), negative: false };
+    let mut look = Look { case, aim, agreed, set, lanes, changed, lacking, bad, by: Vec::new(), negative: false };
     for lane in chosen(lanes) {
         let mut bank = agreed.before.clone();
         match engine::apply(case.count, case.rw, case.ro, &mut bank, set, 1 << (lane - 1)).refusal {
@@ -133,8 +140,8 @@ pub fn count(report: &mut Report, case: &Case, aim: &Aim, set: usize, lanes: u8,
         }
     }
     match agreed.refusal {
-        0 => (look.ids, look.negative) = copied(&look),
-        14 => look.ids = at_fault(&look),
+        0 => (look.by, look.negative) = copied(&look),
+        14 => look.by = at_fault(&look),
         _ => {}
     }
     for (row, test) in &REACHED {
@@ -144,25 +151,25 @@ pub fn count(report: &mut Report, case: &Case, aim: &Aim, set: usize, lanes: u8,
     }
 }
 
-/// The IDs whose bytes in the active set an accepted apply changed, and whether one of the new numbers is below 0.
-fn copied(look: &Look) -> (Vec<u8>, bool) {
+/// The entries whose bytes in the active set an accepted apply changed, and whether one of the new numbers is below 0.
+fn copied<'a>(look: &Look<'a>) -> (Vec<&'a Target>, bool) {
     let Case { count, rw, ro } = *look.case;
     let mut bank = look.agreed.before.clone();
     engine::apply(count, rw, ro, &mut bank, look.set, look.lanes);
-    let (mut ids, mut negative) = (Vec::new(), false);
+    let (mut by, mut negative) = (Vec::new(), false);
     for target in &look.aim.targets {
         let bytes = target.bytes.clone().map(|offset| engine::set_start(2) + offset);
         for at in bytes.filter(|&at| bank[at] != look.agreed.before[at]) {
-            ids.push(target.id);
+            by.push(target);
             // Fields with Min and Max have 8 bits.
             negative |= target.range.is_some() && (bank[at] as i8) < 0;
         }
     }
-    (ids, negative)
+    (by, negative)
 }
 
-/// The IDs with a field in the lane that 14 names whose number write doesn't accept.
-fn at_fault(look: &Look) -> Vec<u8> {
+/// The entries with a field in the lane that 14 names whose number write doesn't accept.
+fn at_fault<'a>(look: &Look<'a>) -> Vec<&'a Target> {
     let Case { count, rw, ro } = *look.case;
     let (set, lane, bank) = (look.set, look.agreed.at, &look.agreed.before);
     let is_fault = |entry, part| {
@@ -170,5 +177,5 @@ fn at_fault(look: &Look) -> Vec<u8> {
         engine::write(count, rw, ro, &mut bank.clone(), set, entry, part, lane, number).refusal != 0
     };
     let copied = look.aim.targets.iter().filter(|target| target.has_app(look.app(lane)));
-    copied.filter(|target| (0..target.parts).any(|part| is_fault(target.entry, part))).map(|target| target.id).collect()
+    copied.filter(|target| (0..target.parts).any(|part| is_fault(target.entry, part))).collect()
 }

@@ -3,6 +3,7 @@
 mod aim;
 mod applies;
 mod numeric;
+mod sixteen;
 pub mod whole;
 
 use second::Call::{Apply, ByteRead, ByteWrite, Publish, Write};
@@ -77,15 +78,15 @@ static LISTS_BY_MAP: [Row; 3] = [
 /// The rows that lists are counted in, beside those of the calls.
 pub fn rows() -> Vec<&'static Row> {
     let rows = VALUES_BY_ID.iter().chain(&BYTES_BY_KIND).chain(&WEIGHTS_BY_STEP).chain([&WEIGHTS_OF_OTHERS]);
-    rows.chain(&LISTS_BY_MAP).chain(numeric::rows()).chain(applies::rows()).collect()
+    rows.chain(&LISTS_BY_MAP).chain(numeric::rows()).chain(sixteen::rows()).chain(applies::rows()).collect()
 }
 
 pub fn compare(report: &mut Report) {
-    let fixed = fixed::maps();
+    let fixed = fixed::settings();
     for seed in 0..LISTS {
         let random = Random::new(seed);
         let map = match random.below(16) {
-            0 => fixed[random.below(fixed.len())].clone(),
+            0 => fixed[random.below(fixed.len())].map.clone(),
             1..=6 => any_map(&random),
             _ => valid::valid(&random).flat(),
         };
@@ -107,6 +108,7 @@ fn compare_list(report: &mut Report, case: &Case, random: &Random) {
         if let Call::Listed(listed) = call {
             numeric::count(report, case, &aim, listed, &agreed);
         }
+        sixteen::count(report, &aim, call, &agreed);
         match (call, agreed.refusal) {
             (Call::Listed(Write { entry, .. } | Publish { entry, .. }), refusal) if VALUE.has(refusal) => {
                 let row = TABLE.concat().iter().position(|&id| id == aim.ids[entry]);
@@ -129,6 +131,11 @@ fn compare_list(report: &mut Report, case: &Case, random: &Random) {
         }
     }
     bank::compare_end(report, case, &bank, &aim.fields.concat());
+    count_list(report, &aim);
+}
+
+/// Counts a list that was followed to its end.
+fn count_list(report: &mut Report, aim: &Aim) {
     if !aim.targets.is_empty() {
         let has_numeric = aim.ids.iter().any(|id| NUMERIC.contains(id));
         report.calls.count(&LISTS_BY_MAP[usize::from(has_numeric)], 0);
@@ -136,6 +143,7 @@ fn compare_list(report: &mut Report, case: &Case, random: &Random) {
             report.calls.count(&LISTS_BY_MAP[2], 0);
         }
     }
+    sixteen::count_list(report, aim);
 }
 
 /// 1 if the byte at an offset of a set is a gap, 0 if it holds fields.

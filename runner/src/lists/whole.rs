@@ -122,8 +122,8 @@ fn compare_field(report: &mut Report, case: &Case, set: usize, lane: usize) {
     }
 }
 
-/// RW entries of every ID and a gap: ID, application mask, then the bytes from MemoryLength on. 03h and 0Dh are for every
-/// AppSel.
+/// RW entries of every ID and a gap: ID, application mask, then the bytes from MemoryLength on. 03h, 0Dh and the 16th, 0Eh,
+/// are for every AppSel.
 const ENTRIES: [(u8, u16, &[u8]); 16] = [
     (0x02, 0x0F0F, &[1, 0]),
     (0x03, 0xFFFF, &[2, 0]),
@@ -140,11 +140,11 @@ const ENTRIES: [(u8, u16, &[u8]); 16] = [
     (0x0B, 0x5A5A, &[1, 0]),
     (0x0C, 0xA5A5, &[2, 0]),
     (0x0D, 0xFFFF, &[8, 0, 0xFF, 0xFD, 0xE2, 0]),
-    (0x0E, 0xC3C3, &[4, 0, 0x03, 0xFE]),
+    (0x0E, 0xFFFF, &[4, 0, 0x03, 0xFF]),
 ];
 
-/// Entries of `ENTRIES` for every AppSel, and a number that each doesn't accept: 03h and 0Dh.
-const FAULTS: [(usize, u8); 2] = [(1, 3), (14, 0xFE)];
+/// Entries of `ENTRIES` for every AppSel, and a number that each doesn't accept: 03h, 0Dh and 0Eh.
+const FAULTS: [(usize, u8); 3] = [(1, 3), (14, 0xFE), (15, 10)];
 
 /// An entry, with its bytes from MemoryLength on.
 fn entry(count: usize, id: u8, mask: u16, rest: &[u8]) -> Vec<u8> {

@@ -1,7 +1,8 @@
-//! The checks 9, 8 and 1 to 7 in one pass over both strings, which shows each entry to the call as it passes.
+//! The checks 9, 8, 16 and 1 to 7 in one pass over both strings, which shows each entry to the call as it passes.
 
 use super::layout::{BANK_SIZE, SET_SIZE};
 use super::rows::{Row, HAS_CODES, HAS_FLAGS, HAS_STEP, HOST_FIRST, IN_RO, IN_RW, MAX_FIRST, ROWS};
+use crate::strings::MOST_ENTRIES;
 
 /// A refusal's number, and the entry or lane that it names, or 0.
 pub type Refusal = (usize, usize);
@@ -92,8 +93,12 @@ impl Walk {
     /// One string. The error is the number of the first check that the entry `self.entries` fails.
     #[inline(always)]
     fn string<const A: usize>(&mut self, side: u8, string: &[u8], visitor: &mut impl Visit) -> Result<(), usize> {
+        let limit = self.entries + MOST_ENTRIES;
         let mut at = 0;
         while let Some(rest) = string.get(at..).filter(|rest| !rest.is_empty()) {
+            if self.entries == limit {
+                return Err(16);
+            }
             let &[id, length, ..] = rest else { return Err(1) };
             let length = usize::from(length);
             let Some(bytes) = rest.get(..length) else { return Err(1) };

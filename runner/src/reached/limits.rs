@@ -1,14 +1,14 @@
-//! The exact limits of document 01 at which a map must have stood, on both sides.
+//! The exact limits of documents 01 and 02 at which a map must have stood, on both sides.
 
 use super::look::{Look, Seen};
 use crate::shape::NUMERIC;
-use crate::strings::{LARGEST, LONGEST, RW};
+use crate::strings::{LARGEST, LONGEST, MOST_ENTRIES, RO, RW};
 
 /// A name, and whether a load stood there.
 type Limit = (&'static str, fn(&Look) -> bool);
 
 #[rustfmt::skip]
-pub const LIMITS: [Limit; 68] = [
+pub const LIMITS: [Limit; 98] = [
     ("count 1 accepted", |l| l.accepted() && l.case.count == 1),
     ("count 8 accepted", |l| l.accepted() && l.case.count == 8),
     ("count 9 accepted", |l| l.accepted() && l.case.count == 9),
@@ -24,7 +24,37 @@ pub const LIMITS: [Limit; 68] = [
     ("RW empty, RO not, accepted", |l| l.accepted() && l.case.rw.is_empty() && !l.case.ro.is_empty()),
     ("RO empty, RW not, accepted", |l| l.accepted() && !l.case.rw.is_empty() && l.case.ro.is_empty()),
     ("both empty", |l| l.accepted() && l.case.rw.is_empty() && l.case.ro.is_empty()),
-    ("40 entries or more accepted", |l| l.accepted() && l.passed().len() >= 40),
+    ("15 RW entries accepted", |l| l.accepted() && l.answer.rw_count == MOST_ENTRIES - 1),
+    ("15 RO entries accepted", |l| l.accepted() && l.answer.ro_count == MOST_ENTRIES - 1),
+    ("16 RW entries accepted", |l| l.accepted() && l.answer.rw_count == MOST_ENTRIES),
+    ("16 RO entries accepted", |l| l.accepted() && l.answer.ro_count == MOST_ENTRIES),
+    ("16 and 16 entries accepted", |l| l.accepted() && [l.answer.rw_count, l.answer.ro_count] == [MOST_ENTRIES; 2]),
+    ("surplus bytes of a 16th RW entry", |l| l.with(|e| e.string == RW && ends_with_surplus(l, e))),
+    ("surplus bytes of a 16th RO entry", |l| l.with(|e| e.string == RO && ends_with_surplus(l, e))),
+    ("1: one byte after 15 RW entries", |l| one_byte_after(l, 1, RW, MOST_ENTRIES - 1)),
+    ("1: one byte after 15 RO entries", |l| one_byte_after(l, 1, RO, MOST_ENTRIES - 1)),
+    ("16: one byte after 16 RW entries", |l| one_byte_after(l, 16, RW, MOST_ENTRIES)),
+    ("16: one byte after 16 RO entries", |l| one_byte_after(l, 16, RO, MOST_ENTRIES)),
+    ("16: exactly 17 RW entries", |l| l.refused(16, |e| e.string == RW && l.entries(RW) == MOST_ENTRIES + 1 && is_last(e))),
+    ("16: exactly 17 RO entries", |l| l.refused(16, |e| e.string == RO && l.entries(RO) == MOST_ENTRIES + 1 && is_last(e))),
+    ("16: more than 20 RW entries", |l| l.refused(16, |e| e.string == RW && l.entries(RW) > 20)),
+    ("16: more than 20 RO entries", |l| l.refused(16, |e| e.string == RO && l.entries(RO) > 20)),
+    ("16: 30 entries, one mask byte", |l| l.refused(16, |e| l.a == 1 && l.entries(e.string) == LONGEST / 4)),
+    ("16: 24 entries, two mask bytes", |l| l.refused(16, |e| l.a == 2 && l.entries(e.string) == LONGEST / 5)),
+    ("16: after entries that reserve nothing", |l| l.refused(16, |e| l.sum_with(e) == l.memory(e).unwrap_or(0))),
+    ("16: in RO after no RW entry", |l| l.refused(16, |e| e.string == RO && l.answer.at == MOST_ENTRIES)),
+    ("16: in RO after 15 RW entries", |l| l.refused(16, |_| l.answer.at == 2 * MOST_ENTRIES - 1)),
+    ("16: in RO after 16 RW entries", |l| l.refused(16, |_| l.answer.at == 2 * MOST_ENTRIES)),
+    ("16: in RW before a 17th RO entry", |l| l.refused(16, |e| e.string == RW && l.has_17th_in(RO))),
+    ("3 before a 17th entry", |l| l.refused(3, |e| l.has_17th_in(e.string))),
+    ("4 before a 17th entry", |l| l.refused(4, |e| l.has_17th_in(e.string))),
+    ("5 before a 17th entry", |l| l.refused(5, |e| l.has_17th_in(e.string))),
+    ("6 before a 17th entry", |l| l.refused(6, |e| l.has_17th_in(e.string))),
+    ("7 before a 17th entry", |l| l.refused(7, |e| l.has_17th_in(e.string))),
+    ("a 16th entry's fault before a 17th", |l| l.stops(|e| l.before(e) == MOST_ENTRIES - 1 && l.has_17th_in(e.string))),
+    ("RW fault before a 17th RO entry", |l| l.answer.refusal != 16 && l.stops(|e| e.string == RW && l.has_17th_in(RO))),
+    ("9: count 0, a 17th entry", |l| l.nine(l.case.count == 0 && has_17th(l))),
+    ("9: a string too long, a 17th entry", |l| l.nine(good_count(l) && has_17th(l))),
     ("staged length 256", |l| l.accepted() && l.answer.staged_length == LARGEST),
     ("active length 256", |l| l.accepted() && l.answer.active_length == LARGEST),
     ("RO entry at offset 256", |l| l.accepted() && l.answer.staged_length == LARGEST && l.answer.ro_count > 0),
@@ -81,6 +111,25 @@ pub const LIMITS: [Limit; 68] = [
 
 fn good_count(l: &Look) -> bool {
     (1..=15).contains(&l.case.count)
+}
+
+/// Either string comes to a 17th entry.
+fn has_17th(l: &Look) -> bool {
+    l.has_17th_in(RW) || l.has_17th_in(RO)
+}
+
+/// The entry is a string's 16th and its last, and longer than its least Length.
+fn ends_with_surplus(l: &Look, entry: &Seen) -> bool {
+    l.before(entry) == MOST_ENTRIES - 1 && is_last(entry) && entry.length() > Some(l.least(entry))
+}
+
+fn is_last(entry: &Seen) -> bool {
+    entry.length() == Some(entry.rest.len())
+}
+
+/// Refused for one byte that is left after this many entries of a string.
+fn one_byte_after(l: &Look, number: usize, string: usize, entries: usize) -> bool {
+    l.refused(number, |e| e.string == string && e.rest.len() == 1 && l.before(e) == entries)
 }
 
 fn media(l: &Look, entry: &Seen) -> bool {

@@ -4,7 +4,7 @@ use crate::case::Case;
 use crate::engine::Loaded;
 use crate::refusals::{named, Named};
 use crate::shape::{self, mask_bytes, shape, TABLE};
-use crate::strings::{LARGEST, RO, RW};
+use crate::strings::{LARGEST, MOST_ENTRIES, RO, RW};
 
 /// An entry: its string, and the bytes from its ID to the string's end.
 #[derive(Clone, Copy)]
@@ -67,9 +67,14 @@ impl<'a> Look<'a> {
         self.stop
     }
 
+    /// Refused at an entry for which the test holds.
+    pub fn stops(&self, test: impl Fn(&Seen) -> bool) -> bool {
+        self.stop.is_some_and(|stop| test(&stop))
+    }
+
     /// Refused with this number, at an entry for which the test holds.
     pub fn refused(&self, number: usize, test: impl Fn(&Seen) -> bool) -> bool {
-        self.answer.refusal == number && self.stop.is_some_and(|stop| test(&stop))
+        self.answer.refusal == number && self.stops(test)
     }
 
     /// Accepted, with an entry for which the test holds.
@@ -116,6 +121,28 @@ impl<'a> Look<'a> {
         entry.rest[4 + self.a]
     }
 
+    /// The entries of its string that were passed before an entry.
+    pub fn before(&self, entry: &Seen) -> usize {
+        let is_before = |e: &&Seen| e.string == entry.string && e.rest.len() > entry.rest.len();
+        self.passed.iter().filter(is_before).count()
+    }
+
+    /// The entries of a string by their Lengths alone, up to one that fails check 1 or 2.
+    pub fn entries(&self, string: usize) -> usize {
+        let mut seen = Seen { string, rest: self.case.string(string) };
+        let mut entries = 0;
+        while let Some(length) = seen.length().filter(|length| (self.least(&seen)..=seen.rest.len()).contains(length)) {
+            seen.rest = &seen.rest[length..];
+            entries += 1;
+        }
+        entries
+    }
+
+    /// A string comes to a 17th entry, looked at by its Lengths alone.
+    pub fn has_17th_in(&self, string: usize) -> bool {
+        self.entries(string) > MOST_ENTRIES
+    }
+
     /// The sum of the MemoryLengths that were passed, with this entry's.
     pub fn sum_with(&self, entry: &Seen) -> usize {
         let before: usize = self.passed.iter().filter_map(|entry| self.memory(entry)).sum();
@@ -131,6 +158,7 @@ impl<'a> Look<'a> {
     /// A check of an entry, looked at by itself, fails at this one.
     pub fn fails(&self, number: usize, entry: &Seen) -> bool {
         match number {
+            16 => self.before(entry) >= MOST_ENTRIES,
             1 => entry.length().is_none_or(|length| length > entry.rest.len()),
             2 => entry.length().is_some_and(|length| length < self.least(entry)),
             3 => match entry.id() {

@@ -5,7 +5,8 @@ use crate::refusals::checks_after;
 use crate::tally::{Row, Tally};
 
 /// The check that was answered, and its row. 5 and 6 never meet: none of 02h to 08h has a step.
-static ANSWERED: [(usize, Row); 6] = [
+static ANSWERED: [(usize, Row); 7] = [
+    (16, Row::new("16 answered", checks_after(16))),
     (1, Row::new("1 answered", checks_after(1))),
     (2, Row::new("2 answered", checks_after(2))),
     (3, Row::new("3 answered", checks_after(3))),

@@ -9,7 +9,7 @@ use lib.Dec.{ltb, leb, ltb→lt, leb→le}
 use denote.Ref.{now}
 use borrow.Author.Tests.{not-true, not-false, lt-ltb, le-ltb, eq-eqb, ne-eqb}
 use Rattle.rules.specs.declared.Call.{Call}
-use Rattle.rules.specs.Load.{mapOf}
+use Rattle.rules.specs.Load.{mapOf, mapWithin}
 use Rattle.rules.specs.Refuse.{exists, misdirected, unaccepted}
 use Rattle.rules.specs.Bank.{bankPlan, bankDoes}
 use Rattle.rules.proofs.Basics.Tests.{and₃, from-true}
@@ -36,7 +36,7 @@ unfolding misdirected
 may c = ne-eqb _ _ (c .if2 .left)
 
 fine : (c : tie.Else3) → let g = c .before .before .before .before .before .before .before .before .before .args in unaccepted (mapOf (g .count) (now (g .rw)) (now (g .ro))) (Call.Select (g .set) (g .lane) (g .app)) ≡ false
-unfolding unaccepted mapOf
+unfolding unaccepted mapWithin
 fine c = le-ltb _ _ (c .if3 .left)
 
 -- the numbers that are passed
@@ -82,7 +82,7 @@ returns-3 c =
     meets (call-11 (g .count) (now (g .rw)) (now (g .ro)) (Call.Select (g .set) (g .lane) (g .app)) (now (g .bank)) (opened (c .before .before)) (there (c .before)) (eq-eqb _ _ (c .if2 .taken))) refl refl
 
 returns-4 : tie.Need-returns-4
-unfolding unaccepted mapOf
+unfolding unaccepted mapWithin
 returns-4 c =
     let g = c .before .before .before .before .before .before .before .before .before .args in
     meets (call-12 (g .count) (now (g .rw)) (now (g .ro)) (Call.Select (g .set) (g .lane) (g .app)) (now (g .bank)) (opened (c .before .before .before)) (there (c .before .before)) (may (c .before)) (lt-ltb _ _ (c .if3 .taken))) refl refl

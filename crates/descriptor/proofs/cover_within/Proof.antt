@@ -1,11 +1,11 @@
 -- `cover_within` meets its contract.
 use mathlib.Core.Path.{_≡_, refl, sym, _∙_}
 use mathlib.Core.Bool.{true, false}
-use Prim.Native.Nat.{_+_, _≤_}
+use Prim.Native.Nat.{_+_, _*_, _≤_}
 use native.Mathlib.Omega.{arith}
 use denote.Ref.{now}
 use Rattle.rules.specs.declared.Loaded.the-variants.{Accepted as accepted}
-use Rattle.rules.specs.Descriptor.{maskBytes, entryAt}
+use Rattle.rules.specs.Descriptor.{maskBytes, entryAt, entryLimit}
 use Rattle.rules.specs.Load.{loadOf}
 use Rattle.rules.specs.Place.{partsOf, widthOf}
 use Rattle.descriptor.specs.declared.Covered.the-variants.{By as by}
@@ -43,7 +43,7 @@ in-first : (c : tie.Then1) →
     let g = k .before .before .before .before .before .before .args in
     let h = c .before .before .look .result in
     let e = entryAt (maskBytes (g .count)) (now (g .rw)) (h .at) (h .sum) in
-    (h .at ≤ 120) × (by (h .number) (h .sum) (partsOf e) (widthOf e) false ≡ coverOf (g .count) (now (g .rw)) (now (g .ro)) (g .offset)) × (h .number ≤ 240)
+    (h .at ≤ 120) × (by (h .number) (h .sum) (partsOf e) (widthOf e) false ≡ coverOf (g .count) (now (g .rw)) (now (g .ro)) (g .offset)) × (h .number ≤ 2 * entryLimit)
 in-first c =
     let k = c .before .before .before .before in
     let g = k .before .before .before .before .before .before .args in
@@ -55,7 +55,7 @@ in-last : (c : tie.Then2) →
     let h = c .before .before .look2 .result in
     let e = entryAt (maskBytes (g .count)) (now (g .ro)) (h .at) (h .sum) in
     let n = k .before .loaded2 .given .0 .0 + h .number in
-    (h .at ≤ 120) × (by n (h .sum) (partsOf e) (widthOf e) true ≡ coverOf (g .count) (now (g .rw)) (now (g .ro)) (g .offset)) × (n ≤ 240)
+    (h .at ≤ 120) × (by n (h .sum) (partsOf e) (widthOf e) true ≡ coverOf (g .count) (now (g .rw)) (now (g .ro)) (g .offset)) × (n ≤ 2 * entryLimit)
 in-last c =
     let k = c .before .before .before .before .before .before .before in
     let g = k .before .before .before .before .before .before .args in

@@ -11,7 +11,7 @@ use borrow.Author.Tests.{not-true, not-false}
 use Rattle.rules.specs.declared.State.{State}
 use Rattle.rules.specs.declared.Loaded.the-variants.{Refused as rejected}
 use Rattle.rules.specs.declared.Walked.the-variants.{Ended as ended}
-use Rattle.rules.specs.Descriptor.{maskBytes}
+use Rattle.rules.specs.Descriptor.{maskBytes, entryLimit}
 use Rattle.rules.specs.Load.{start, intoRO, walkOf, sized}
 use Rattle.rules.proofs.Basics.Tests.{and₄, from-true}
 use Rattle.rules.proofs.Load.Loads.{load-9, load-strings, strings-rw-refused, strings-ro-refused}
@@ -43,12 +43,11 @@ middle : (c : tie.After-known-told) → let g = c .before .before .before .befor
 middle c = first-walk (c .before .before .before) ∙ c .before .first .given .1
 
 record Ended (st : State) : Type 0 where
-  number : st .number ≤ 120
+  number : st .number ≤ entryLimit
   sum : st .sum ≤ 256
 
 ended-at : (c : tie.After-known-told) → Ended (c .before .first .given .0 .0)
 ended-at c =
-    let z = sizes (c .before .before .before .before .before .before .before .before) in
     let (x, y, v) = walk-counts _ _ _ 0 start _ (omega arith) (middle c) in
     record { number = omega arith; sum = v }
 
@@ -89,7 +88,7 @@ scan-requires c κs =
       mask-low = k .mask-bytes .ensures .1;
       mask-top = k .mask-bytes .ensures .2;
       short = z .first;
-      number = omega arith;
+      numbers = record { begun = omega arith; first = omega arith };
       sum = omega arith;
     })
 
@@ -124,7 +123,7 @@ scan-requires-2 c κs =
       mask-low = k .mask-bytes .ensures .1;
       mask-top = k .mask-bytes .ensures .2;
       short = sizes (k .before) .last;
-      number = omega (arith, ended-at u .number);
+      numbers = record { begun = omega arith; first = ended-at u .number };
       sum = ended-at u .sum;
     })
 
@@ -151,7 +150,7 @@ sub-t32 : tie.Need-sub-t32
 sub-t32 c =
     let e = c .before .before in
     let u = e .before .before .before .before .before .before .before in
-    omega (arith, walk-counts _ _ _ 0 (intoRO (u .before .first .given .0 .0)) _ (ended-at u .sum) (last e) .0)
+    omega (arith, walk-counts _ _ _ 0 (u .before .first .given .0 .0) _ (ended-at u .sum) (last e) .0)
 
 returns-4 : tie.Need-returns-4
 returns-4 c =

@@ -10,7 +10,7 @@ use lib.ListN.{length, getD, set}
 use lib.Seq.{getD-set-same, getD-set-other}
 use lib.Dec.{T, eqb, eqb-refl, ltb→lt}
 use Rattle.rules.specs.Words.{Call, select, write, read, byteWrite, byteRead, publish, apply, number}
-use Rattle.rules.specs.Load.{Map, mapOf}
+use Rattle.rules.specs.Load.{Map, mapOf, readOf}
 use Rattle.rules.specs.Place.{entry, partsOf, widthOf, signedOf, isRW, Field}
 use Rattle.rules.specs.Accept.{accepts, fromBits}
 use Rattle.rules.specs.Layout.{bankSize, appSelAt}
@@ -163,7 +163,7 @@ call-reads count first last c b b′ h q same =
     m = mapOf count first last
 
     order : Bank → Verdict
-    order x = bankOrder count first last (length b) (judge m c ++ bankPlan m c x)
+    order x = bankOrder (readOf count first last) (length b) (judge m c ++ bankPlan m c x)
 
     order-alike : order b ≡ order b′
     order-alike =

@@ -8,7 +8,7 @@ use lib.ListN.{length, set, length-set}
 use lib.Seq.{getD-set-other}
 use lib.Dec.{T, T-not, eqb-refl}
 use Rattle.rules.specs.Words.{Call, select, write, read, byteWrite, byteRead, publish, apply}
-use Rattle.rules.specs.Load.{Map, mapOf}
+use Rattle.rules.specs.Load.{Map, mapOf, readOf}
 use Rattle.rules.specs.Place.{entry, widthOf, Field}
 use Rattle.rules.specs.Layout.{bankSize, setStart, appSelAt}
 use Rattle.rules.specs.Refuse.{Verdict, passes, refuses, decide, judge, bankOrder, chooses}
@@ -101,12 +101,12 @@ module _ (m : Map) (g : GoodMap m) (b : Bank) (size : bankSize ≤ length b) whe
 
 pub call-writes : WritesOnly
 unfolding bankCall
-call-writes count first last c b h = go (bankOrder count first last (length b) (judge m c ++ bankPlan m c b)) refl
+call-writes count first last c b h = go (bankOrder (readOf count first last) (length b) (judge m c ++ bankPlan m c b)) refl
   where
     m : Map
     m = mapOf count first last
 
-    go : (v : Verdict) → bankOrder count first last (length b) (judge m c ++ bankPlan m c b) ≡ v → OnlyOn m (onLane c) b (decide v b (bankDoes m c b) .1)
+    go : (v : Verdict) → bankOrder (readOf count first last) (length b) (judge m c ++ bankPlan m c b) ≡ v → OnlyOn m (onLane c) b (decide v b (bankDoes m c b) .1)
     go (refuses r) q = only-self m (onLane c) b
     go passes q =
         let (a, z, r) = bank-order-passes count first last (length b) _ q in

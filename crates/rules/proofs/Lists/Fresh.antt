@@ -5,7 +5,7 @@ use Prim.Native.Nat.{ℕ, _≤_}
 use native.Mathlib.Omega.{arith}
 use lib.ListN.{length}
 use Rattle.rules.specs.Words.{Loaded, accepted}
-use Rattle.rules.specs.Load.{loadOf}
+use Rattle.rules.specs.Load.{loadOf, readOf}
 use Rattle.rules.specs.Layout.{bankSize}
 use Rattle.rules.specs.Refuse.{Verdict, passes, refuses, bankOrder}
 use Rattle.rules.specs.Bank.{Bank, freshened, freshCall}
@@ -13,7 +13,7 @@ use Rattle.rules.specs.Demands.{Accepted, FreshAccepted, Demand3-after-f
 use Rattle.rules.proofs.Refusals.Orders.{bank-order-passes}
 use Rattle.rules.proofs.Lists.Lists.{lists-agree}
 
--- a fresh that is accepted passed 9, 8 and 1 to 7
+-- a fresh that is accepted passed 9, 8 and the checks of the entries
 record Through (v : Verdict) (answer : Loaded) (n k c d : ℕ) : Type 0 where
   passed : v ≡ passes
   answers : answer ≡ accepted n k c d
@@ -23,9 +23,9 @@ through passes answer b n k c d h = record { passed = refl; answers = h }
 through (refuses r) answer b n k c d h = let o : _≡_ {A = ℕ} 0 1 = cc in absurd (omega arith)
 
 module _ (count : ℕ) (first last : List ℕ) (bank : Bank) (h : FreshAccepted count first last bank) where
-  whole : Through (bankOrder count first last (length bank) []) (loadOf count first last) (h .rwCount) (h .roCount) (h .staged) (h .active)
-  unfolding freshCall
-  whole = through (bankOrder count first last (length bank) []) (loadOf count first last) bank (h .rwCount) (h .roCount) (h .staged) (h .active) (h .fresh)
+  whole : Through (bankOrder (readOf count first last) (length bank) []) (loadOf count first last) (h .rwCount) (h .roCount) (h .staged) (h .active)
+  unfolding freshCall loadOf
+  whole = through (bankOrder (readOf count first last) (length bank) []) (loadOf count first last) bank (h .rwCount) (h .roCount) (h .staged) (h .active) (h .fresh)
 
   pub fresh-accepts : Accepted count first last
   fresh-accepts = record { rwCount = h .rwCount; roCount = h .roCount; staged = h .staged; active = h .active; loads = whole .answers }

@@ -25,7 +25,7 @@ use Rattle.rules.specs.Machine.{Command, call, run}
 use Rattle.rules.specs.Demands.{Accepted, bitIn, Shows, bankRun, Demand3}
 use Rattle.rules.proofs.Basics.Tests.{either}
 use Rattle.rules.proofs.Place.AcceptedMap.{GoodMap}
-use Rattle.rules.proofs.Load.Walks.{map-good, check9-passes, check1to7-passes}
+use Rattle.rules.proofs.Load.Walks.{map-good, check9-passes, checkEntries-passes}
 use Rattle.rules.proofs.Bank.Places.{set-inside, app-inside}
 use Rattle.rules.proofs.Place.Fields.{holds-field, field-holds, in-bank}
 use Rattle.rules.proofs.Place.CoveredBytes.{covered, in-covered, in-field}
@@ -54,8 +54,8 @@ module _ (count : ℕ) (first last : List ℕ) (ok : Accepted count first last) 
   unfolding bankCall tableCall
   one-call c b t r =
       rw (
-        bank-order-open count first last (check9-passes count first last ok) (check1to7-passes count first last ok) (length b) (judge m c ++ bankPlan m c b) (r .size),
-        order-open count first last (check9-passes count first last ok) (check1to7-passes count first last ok) (judge m c ++ tablePlan m c t),
+        bank-order-open count first last (check9-passes count first last ok) (checkEntries-passes count first last ok) (length b) (judge m c ++ bankPlan m c b) (r .size),
+        order-open count first last (check9-passes count first last ok) (checkEntries-passes count first last ok) (judge m c ++ tablePlan m c t),
         order-same c b t r,
       )
       (decide-both (Same m tail) (firstOf (judge m c ++ tablePlan m c t)) b t _ _
@@ -131,7 +131,7 @@ fresh-bank :
     → freshCall count first last bank .1 ≡ replicate bankSize 0 ++ drop bankSize bank
 unfolding freshCall freshBank
 fresh-bank count first last bank ok size =
-    rw (bank-order-open count first last (check9-passes count first last ok) (check1to7-passes count first last ok) (length bank) [] size) refl
+    rw (bank-order-open count first last (check9-passes count first last ok) (checkEntries-passes count first last ok) (length bank) [] size) refl
 
 pub lists-agree : Demand3
 lists-agree count first last bank ok size calls =

@@ -2,14 +2,14 @@
 use mathlib.Core.Path.{_≡_, refl, ap}
 use mathlib.Core.Bool.{Bool, true, false}
 use mathlib.Core.List.{List}
-use Prim.Native.Nat.{ℕ, _+_, _-_, _*_, _≤_}
+use Prim.Native.Nat.{ℕ, _+_, _-_, _*_, _≤_, _<_}
 use native.Mathlib.Omega.{arith}
 use lib.ListN.{length}
 use lib.Dec.{ltb, eqb}
-use borrow.Author.Tests.{ltb-false, not-false}
+use borrow.Author.Tests.{leb-false, ltb-false, not-false}
 use Rattle.rules.specs.Words.{Entry, Decoded, decoded, failed, State}
 use Rattle.rules.specs.Parameter.{rowOf}
-use Rattle.rules.specs.Descriptor.{byteAt, highFirst, entryAt, mayStand, refuse, lengthChecks, contentChecks, decodeAt}
+use Rattle.rules.specs.Descriptor.{byteAt, highFirst, entryAt, mayStand, refuse, lengthChecks, contentChecks, decodeAt, decodeWithin, entryLimit}
 use Rattle.rules.proofs.Basics.Tests.{or-no}
 use Rattle.rules.proofs.Table.Rows.{row-least, row-needed, row-width}
 use Rattle.rules.proofs.Place.AcceptedMap.{GoodEntry}
@@ -27,9 +27,10 @@ unfolding refuse
 passed true n d e h = let z : _≡_ {A = ℕ} 0 1 = cc in absurd (omega arith)
 passed false n d e h = (refl, h)
 
--- an entry that passes the seven checks at a place of a string and a state
+-- an entry that passes its checks at a place of a string and a state
 pub record Passed (ro : Bool) (a : ℕ) (s : List ℕ) (at : ℕ) (st : State) (e : Entry) : Type 0 where
   pub entry : e ≡ entryAt a s at (st .sum)
+  pub few : st .number - st .first < entryLimit
   pub within : e .length ≤ length s - at
   pub long : 3 + a ≤ e .length
   pub side : mayStand (rowOf (e .id) .side) ro ≡ true
@@ -40,9 +41,10 @@ same-entry : (x y : Entry) → decoded x ≡ decoded y → y ≡ x
 same-entry x y h = cc
 
 pub decode-passed : (ro : Bool) (a : ℕ) (s : List ℕ) (at : ℕ) (st : State) (e : Entry) → decodeAt ro a s at st ≡ decoded e → Passed ro a s at st e
-unfolding decodeAt lengthChecks contentChecks
+unfolding decodeWithin lengthChecks contentChecks
 decode-passed ro a s at st e h =
-    let h1 = passed _ _ _ e h in
+    let h0 = passed _ _ _ e h in
+    let h1 = passed _ _ _ e (h0 .1) in
     let h2 = passed _ _ _ e (h1 .1) in
     let h3 = passed _ _ _ e (h2 .1) in
     let h4 = passed _ _ _ e (h3 .1) in
@@ -55,6 +57,7 @@ decode-passed ro a s at st e h =
     rw q
     (record {
       entry = refl;
+      few = omega (arith, leb-false);
       within = omega (arith, ltb-false);
       long = omega (arith, ltb-false, row-least (x .id));
       side = not-false _ (h3 .0);

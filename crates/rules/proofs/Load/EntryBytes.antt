@@ -12,14 +12,14 @@ use lib.Dec.{T, ltb, leb, ltb→lt, nltb→le}
 use borrow.Author.Tests.{ltb-true, lt-ltb, not-false}
 use Rattle.rules.specs.Words.{Refusal, Entry, saysYes, refused}
 use Rattle.rules.specs.Descriptor.{maskBytes, byteAt}
-use Rattle.rules.specs.Load.{rwEntries, roEntries, entriesOf, mapOf}
+use Rattle.rules.specs.Load.{rwEntries, roEntries, mapOf, bothWithin, mapWithin, readOf}
 use Rattle.rules.specs.Place.{nothing, entry, isRW}
 use Rattle.rules.specs.Refuse.{Verdict, passes, refuses}
 use Rattle.rules.specs.Beside.{entryVerdict, answered, entryAnswer, ownBytes, partOr, entryBytes}
 use Rattle.rules.specs.Demands.{Accepted, OwnBytes}
 use Rattle.rules.proofs.Basics.Tests.{by-test}
 use Rattle.rules.proofs.Load.Checks.{decode-passed}
-use Rattle.rules.proofs.Load.Walks.{check9-passes, check1to7-passes}
+use Rattle.rules.proofs.Load.Walks.{check9-passes, checkEntries-passes}
 use Rattle.rules.proofs.Load.Fills.{Filled, filled-nth, stands-start, rw-filled, ro-filled}
 use Rattle.rules.proofs.Refusals.Orders.{order-passes}
 use Rattle.rules.proofs.Refusals.Verdicts.{first-passes, refuse-if-passes, order-open}
@@ -54,7 +54,7 @@ filled-part ro count s l n g h =
 
 module _ (count : ℕ) (first last : List ℕ) (ok : Accepted count first last) (e : ℕ) (h : e < length (mapOf count first last .entries)) where
   pub entry-part : OwnPart (cond (isRW (mapOf count first last) e) first last) (entry (mapOf count first last) e)
-  unfolding mapOf entriesOf
+  unfolding mapWithin bothWithin
   entry-part = by-test (λ s. OwnPart s (getD (r ++ o) e nothing)) (ltb e (length r)) first last in-rw in-ro
     where
       r : List Entry
@@ -77,11 +77,11 @@ module _ (count : ℕ) (first last : List ℕ) (ok : Accepted count first last) 
           (ap (λ i. getD (r ++ o) i nothing) q ∙ getD-append-add r o (e - length r) nothing)
           (filled-part true count last o (e - length r) (ro-filled count first last ok) (omega (arith, length-append r o)))
 
-  verdict-accepted : entryVerdict count first last e ≡ passes
+  verdict-accepted : entryVerdict (readOf count first last) e ≡ passes
   unfolding entryVerdict
   verdict-accepted =
       rw (
-        order-open count first last (check9-passes count first last ok) (check1to7-passes count first last ok),
+        order-open count first last (check9-passes count first last ok) (checkEntries-passes count first last ok),
         lt-ltb e (length (mapOf count first last .entries)) h,
       )
 
@@ -95,7 +95,7 @@ module _ (count : ℕ) (first last : List ℕ) (ok : Accepted count first last) 
 
 module _ (count : ℕ) (first last : List ℕ) (e : ℕ) where
   -- a call that is not refused: the load accepts, and the entry is one of the map's
-  pub verdict-passes : entryVerdict count first last e ≡ passes → Accepted count first last × (e < length (mapOf count first last .entries))
+  pub verdict-passes : entryVerdict (readOf count first last) e ≡ passes → Accepted count first last × (e < length (mapOf count first last .entries))
   unfolding entryVerdict
   verdict-passes h =
       let p = order-passes count first last _ h in
@@ -103,12 +103,12 @@ module _ (count : ℕ) (first last : List ℕ) (e : ℕ) where
 
   pub part-empty : (entryBytes count first last e ≡ []) ↔ ((x : Refusal) × (entryAnswer count first last e ≡ refused x))
   unfolding entryBytes entryAnswer
-  part-empty = go (entryVerdict count first last e) refl
+  part-empty = go (entryVerdict (readOf count first last) e) refl
     where
       own : List ℕ
       own = ownBytes (cond (isRW (mapOf count first last) e) first last) (entry (mapOf count first last) e)
 
-      go : (v : Verdict) → entryVerdict count first last e ≡ v → (partOr v own ≡ []) ↔ ((x : Refusal) × (answered v saysYes ≡ refused x))
+      go : (v : Verdict) → entryVerdict (readOf count first last) e ≡ v → (partOr v own ≡ []) ↔ ((x : Refusal) × (answered v saysYes ≡ refused x))
       go (refuses r) q = (λ _. (r, refl), λ _. refl)
       go passes q = (
         λ z.

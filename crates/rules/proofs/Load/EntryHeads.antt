@@ -3,21 +3,21 @@
 use mathlib.Core.Path.{_≡_, refl, sym, ap, _∙_}
 use mathlib.Core.Bool.{Bool, true, false, cond}
 use mathlib.Core.List.{List, [], _∷_, _++_}
-use Prim.Native.Nat.{ℕ, zero, suc, _+_, _-_, _≤_, _<_}
+use Prim.Native.Nat.{ℕ, zero, suc, _+_, _-_, _*_, _≤_, _<_}
 use native.Mathlib.Omega.{arith}
 use lib.ListN.{length, getD, take, length-append, List·getD-append}
 use lib.Seq.{getD-append-add, take-append-le, take-append-add}
 use lib.Dec.{leb, leb→le}
 use borrow.Author.Tests.{ltb-true, ltb-false}
 use Rattle.rules.specs.Words.{Entry}
-use Rattle.rules.specs.Descriptor.{maskBytes, entryAt}
-use Rattle.rules.specs.Load.{rwEntries, roEntries, entriesOf, total, mapOf}
+use Rattle.rules.specs.Descriptor.{maskBytes, entryAt, entryLimit}
+use Rattle.rules.specs.Load.{rwEntries, roEntries, total, mapOf, bothWithin, mapWithin}
 use Rattle.rules.specs.Place.{nothing, entry, isStaged, isRW, heldBy, lengthOf}
 use Rattle.rules.specs.Demands.{Accepted, lengths}
 use Rattle.rules.proofs.Basics.Tests.{and₄, by-test}
 use Rattle.rules.proofs.Load.Checks.{decode-passed}
 use Rattle.rules.proofs.Place.AcceptedMap.{entry-ends}
-use Rattle.rules.proofs.Load.Walks.{load-accepted, total-append, map-good}
+use Rattle.rules.proofs.Load.Walks.{load-accepted, load-few, total-append, map-good}
 use Rattle.rules.proofs.Place.PlaceOwner.{both-ways}
 use Rattle.rules.proofs.Load.Fills.{Stands, Filled, filled-nth, stands-start, rw-filled, ro-filled, rw-fills, ro-fills}
 
@@ -35,11 +35,6 @@ module _ (ro : Bool) (a : ℕ) (s : List ℕ) where
 
   pub filled-head : (l : List Entry) (n : ℕ) → Filled ro a s 0 l → n < length l → Head a s (getD l n nothing)
   filled-head l n g h = stands-head (filled-nth ro a s l n g h)
-
-  -- an entry takes more than one byte
-  filled-few : (from : ℕ) (l : List Entry) → Filled ro a s from l → from + length l ≤ length s
-  filled-few from [] g = omega arith
-  filled-few from (e ∷ l) g = omega (arith, filled-few (from + e .length) l (g .1), decode-passed ro a s from (g .0 .st) e (g .0 .passes) .long)
 
 -- the Lengths and the MemoryLengths before the next entry
 pub lengths-next : (l : List Entry) (n : ℕ) → n < length l → lengths (take (suc n) l) ≡ lengths (take n l) + getD l n nothing .length
@@ -72,7 +67,7 @@ lengths-append (e ∷ l) r = omega (arith, lengths-append l r)
 
 -- no set is longer than the sum of all
 pub length-most : (count : ℕ) (rw ro : List ℕ) (s : ℕ) → lengthOf (mapOf count rw ro) s ≤ total (mapOf count rw ro .entries)
-unfolding mapOf lengthOf entriesOf
+unfolding mapWithin lengthOf bothWithin
 length-most count first last s =
     by-test (λ n. n ≤ total (rwEntries count first ++ roEntries count first last)) (isStaged s) _ _
     (λ _. omega (arith, total-append (rwEntries count first) (roEntries count first last)))
@@ -85,15 +80,9 @@ module _ (count : ℕ) (first last : List ℕ) (ok : Accepted count first last) 
   abbrev o : List Entry
   o = roEntries count first last
 
-  pub few-entries : length (mapOf count first last .entries) ≤ length first + length last
-  unfolding mapOf entriesOf
-  few-entries =
-      omega (
-        arith,
-        length-append r o,
-        filled-few false (maskBytes count) first 0 r (rw-filled count first last ok),
-        filled-few true (maskBytes count) last 0 o (ro-filled count first last ok),
-      )
+  pub few-entries : length (mapOf count first last .entries) ≤ 2 * entryLimit
+  unfolding mapWithin bothWithin
+  few-entries = omega (arith, length-append r o, load-few count first last ok)
 
   -- no space passes byte 256
   pub entry-fits :
@@ -106,21 +95,21 @@ module _ (count : ℕ) (first last : List ℕ) (ok : Accepted count first last) 
   -- an entry of the RW string
   module _ (e : ℕ) (h : e < mapOf count first last .rwCount) where
     pub in-rw : entry (mapOf count first last) e ≡ getD (rwEntries count first) e nothing
-    unfolding mapOf entriesOf
+    unfolding mapWithin bothWithin
     in-rw = List·getD-append r o nothing e h
 
     pub rw-head : Head (maskBytes count) first (entry (mapOf count first last) e)
-    unfolding mapOf
+    unfolding mapWithin
     rw-head = rw in-rw (filled-head false (maskBytes count) first r e (rw-filled count first last ok) h)
 
     pub rw-place : lengths (take e (mapOf count first last .entries)) ≡ entry (mapOf count first last) e .start
-    unfolding mapOf entriesOf
+    unfolding mapWithin bothWithin
     rw-place =
         let l : e ≤ length r = omega arith in
         ap lengths (take-append-le e r o l) ∙ sym (rw in-rw (rw-fills count first last ok .starts e h))
 
     pub rw-offset : getD (rwEntries count first) e nothing .offset ≡ total (take e (rwEntries count first))
-    unfolding mapOf entriesOf
+    unfolding mapWithin bothWithin
     rw-offset =
         let l : e ≤ length r = omega arith in
         rw (← in-rw) (both-ways count first last ok .offsets e (omega (arith, length-append r o)) ∙ ap total (take-append-le e r o l))
@@ -131,22 +120,22 @@ module _ (count : ℕ) (first last : List ℕ) (ok : Accepted count first last) 
     n = e - mapOf count first last .rwCount
 
     split : e ≡ length r + n
-    unfolding mapOf n
+    unfolding mapWithin n
     split = omega arith
 
     n-lt : n < length o
-    unfolding mapOf entriesOf n
+    unfolding mapWithin bothWithin n
     n-lt = omega (arith, length-append r o)
 
     in-ro : entry (mapOf count first last) e ≡ getD o n nothing
-    unfolding mapOf entriesOf
+    unfolding mapWithin bothWithin
     in-ro = ap (λ i. getD (r ++ o) i nothing) split ∙ getD-append-add r o n nothing
 
     pub ro-head : Head (maskBytes count) last (entry (mapOf count first last) e)
     ro-head = rw in-ro (filled-head true (maskBytes count) last o n (ro-filled count first last ok) n-lt)
 
     pub ro-place : lengths (take e (mapOf count first last .entries)) ≡ length first + entry (mapOf count first last) e .start
-    unfolding mapOf entriesOf
+    unfolding mapWithin bothWithin
     ro-place =
         ap (λ i. lengths (take i (r ++ o))) split
         ∙ ap lengths (take-append-add r o n)
@@ -155,7 +144,7 @@ module _ (count : ℕ) (first last : List ℕ) (ok : Accepted count first last) 
 
     -- "The staged length is the RW sum": an RO entry's space begins there, or later
     pub ro-after : mapOf count first last .staged ≤ entry (mapOf count first last) e .offset
-    unfolding mapOf entriesOf
+    unfolding mapWithin bothWithin
     ro-after =
         let z : total (take e (r ++ o)) ≡ total r + total (take n o)
         = ap (λ i. total (take i (r ++ o))) split ∙ ap total (take-append-add r o n) ∙ total-append r (take n o) in

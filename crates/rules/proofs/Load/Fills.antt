@@ -10,8 +10,8 @@ use lib.ListN.{length, getD, take}
 use lib.Dec.{ltb}
 use borrow.Author.Tests.{ltb-true, ltb-false}
 use Rattle.rules.specs.Words.{Entry, Decoded, decoded, failed, State, Walked, ended}
-use Rattle.rules.specs.Descriptor.{maskBytes, entryAt, decodeAt}
-use Rattle.rules.specs.Load.{start, next, intoRO, foldBy, foldOf, onward, walkOf, gather, entriesFrom, rwEntries, roEntries}
+use Rattle.rules.specs.Descriptor.{maskBytes, entryAt, decodeAt, limited}
+use Rattle.rules.specs.Load.{start, next, intoRO, foldBy, foldOf, onward, walkOf, gather, entriesFrom, rwEntries, roEntries, entriesWithin, roWithin, rwWithin, walkWithin}
 use Rattle.rules.specs.Place.{nothing}
 use Rattle.rules.specs.Columns.{ExtrasRead}
 use Rattle.rules.specs.Demands.{Accepted, lengths, Fills}
@@ -54,14 +54,14 @@ module _ (ro : Bool) (a : ℕ) (s : List ℕ) where
         (f at : ℕ) (st : State)
         → at ≤ length s
         → length s ≤ at + f
-        → foldBy onward ended ro a f s at st ≡ ended end
-        → Filled ro a s at (foldBy gather (λ _. []) ro a f s at st)
+        → foldBy limited onward ended ro a f s at st ≡ ended end
+        → Filled ro a s at (foldBy limited gather (λ _. []) ro a f s at st)
     unfolding foldBy
     filled-by zero at st u g h = omega arith
     filled-by (suc f) at st u g h =
         filled-turn f at st
-        (λ e. foldBy onward ended ro a f s (at + e .length) (next st e))
-        (λ e. foldBy gather (λ _. []) ro a f s (at + e .length) (next st e))
+        (λ e. foldBy limited onward ended ro a f s (at + e .length) (next st e))
+        (λ e. foldBy limited gather (λ _. []) ro a f s (at + e .length) (next st e))
         (λ e. filled-by f (at + e .length) (next st e))
         u
         g
@@ -72,7 +72,7 @@ module _ (ro : Bool) (a : ℕ) (s : List ℕ) where
         h
 
     walk-filled : (at : ℕ) (st : State) → at ≤ length s → walkOf ro a s at st ≡ ended end → Filled ro a s at (entriesFrom ro a s at st)
-    unfolding walkOf foldOf entriesFrom
+    unfolding walkWithin foldOf entriesWithin
     walk-filled at st u h = filled-by (length s) at st u (omega arith) h
 
   -- an entry stands after all those before it
@@ -118,11 +118,11 @@ module _ (count : ℕ) (first last : List ℕ) (ok : Accepted count first last) 
   a = load-accepted count first last _ _ _ _ (ok .loads)
 
   pub rw-filled : Filled false (maskBytes count) first 0 (rwEntries count first)
-  unfolding rwEntries
+  unfolding rwWithin
   rw-filled = walk-filled false (maskBytes count) first (a .middle) 0 start (omega arith) (a .rw-ends)
 
   pub ro-filled : Filled true (maskBytes count) last 0 (roEntries count first last)
-  unfolding roEntries
+  unfolding roWithin
   ro-filled =
       rw (a .rw-ends) (walk-filled true (maskBytes count) last (a .end) 0 (intoRO (a .middle)) (omega arith) (a .ro-ends))
 

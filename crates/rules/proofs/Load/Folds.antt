@@ -8,15 +8,14 @@ use native.Mathlib.Omega.{arith}
 use lib.ListN.{length}
 use borrow.Author.Tests.{lt-ltb, le-ltb}
 use Rattle.rules.specs.Words.{Entry, decoded, State}
-use Rattle.rules.specs.Descriptor.{decodeAt}
+use Rattle.rules.specs.Descriptor.{decodeAt, limited}
 use Rattle.rules.specs.Load.{next, Turn, foldBy, foldOf}
 use Rattle.rules.proofs.Load.Checks.{decode-passed}
 
 pub record Folded {A : Type 0} (on : Turn A) (end : State → A) (ro : Bool) (a : ℕ) (s : List ℕ) (at₀ : ℕ) (st₀ : State) (at : ℕ) (st : State) : Type 0 where
   pub fuel : ℕ
   pub enough : length s ≤ at + fuel
-  pub same : foldBy on end ro a fuel s at st ≡ foldOf on end ro a s at₀ st₀
-  pub counts : st .number + at₀ ≤ st₀ .number + at
+  pub same : foldBy limited on end ro a fuel s at st ≡ foldOf limited on end ro a s at₀ st₀
 
 pub more : (f n at : ℕ) → n ≤ at + f → at < n → (k : ℕ) × (f ≡ suc k)
 more zero n at g h = absurd (omega arith)
@@ -25,9 +24,9 @@ more (suc f) n at g h = (f, refl)
 module _ {A : Type 0} (on : Turn A) (end : State → A) (ro : Bool) (a : ℕ) (s : List ℕ) where
   pub begin : (at : ℕ) (st : State) → Folded on end ro a s at st at st
   unfolding foldOf
-  begin at st = record { fuel = length s; enough = omega arith; same = refl; counts = omega arith }
+  begin at st = record { fuel = length s; enough = omega arith; same = refl }
 
-  pub done-by : (f at : ℕ) (st : State) → length s ≤ at → foldBy on end ro a f s at st ≡ end st
+  pub done-by : (f at : ℕ) (st : State) → length s ≤ at → foldBy limited on end ro a f s at st ≡ end st
   unfolding foldBy
   done-by zero at st h = refl
   done-by (suc f) at st h = rw (le-ltb at (length s) h)
@@ -35,25 +34,25 @@ module _ {A : Type 0} (on : Turn A) (end : State → A) (ro : Bool) (a : ℕ) (s
   pub turn-by :
       (f at : ℕ) (st : State)
       → at < length s
-      → foldBy on end ro a (suc f) s at st ≡ on (decodeAt ro a s at st) st (λ e. foldBy on end ro a f s (at + e .length) (next st e))
+      → foldBy limited on end ro a (suc f) s at st ≡ on (decodeAt ro a s at st) st (λ e. foldBy limited on end ro a f s (at + e .length) (next st e))
   unfolding foldBy
   turn-by f at st h = rw (lt-ltb at (length s) h)
 
 module _ {A : Type 0} {on : Turn A} {end : State → A} {ro : Bool} {a : ℕ} {s : List ℕ} {at₀ : ℕ} {st₀ : State} {at : ℕ} {st : State}
     (r : Folded on end ro a s at₀ st₀ at st) where
   -- no byte is left
-  pub done : length s ≤ at → end st ≡ foldOf on end ro a s at₀ st₀
+  pub done : length s ≤ at → end st ≡ foldOf limited on end ro a s at₀ st₀
   done h = sym (done-by on end ro a s (r .fuel) at st h) ∙ r .same
 
   module _ (h : at < length s) where
-    rest : (k : ℕ) → r .fuel ≡ suc k → on (decodeAt ro a s at st) st (λ e. foldBy on end ro a k s (at + e .length) (next st e)) ≡ foldOf on end ro a s at₀ st₀
+    rest : (k : ℕ) → r .fuel ≡ suc k → on (decodeAt ro a s at st) st (λ e. foldBy limited on end ro a k s (at + e .length) (next st e)) ≡ foldOf limited on end ro a s at₀ st₀
     rest k q = sym (turn-by on end ro a s k at st h) ∙ (rw q at (r .same))
 
     -- a turn that ends the walk with the answer x
-    pub out : (x : A) → ((k : Entry → A) → x ≡ on (decodeAt ro a s at st) st k) → x ≡ foldOf on end ro a s at₀ st₀
+    pub out : (x : A) → ((k : Entry → A) → x ≡ on (decodeAt ro a s at st) st k) → x ≡ foldOf limited on end ro a s at₀ st₀
     out x g =
         let m = more (r .fuel) (length s) at (r .enough) h in
-        g (λ e. foldBy on end ro a (m .0) s (at + e .length) (next st e)) ∙ rest (m .0) (m .1)
+        g (λ e. foldBy limited on end ro a (m .0) s (at + e .length) (next st e)) ∙ rest (m .0) (m .1)
 
     -- a turn that goes on past an entry
     pub turn :
@@ -67,6 +66,5 @@ module _ {A : Type 0} {on : Turn A} {end : State → A} {ro : Bool} {a : ℕ} {s
         record {
           fuel = m .0;
           enough = omega arith;
-          same = g (λ x. foldBy on end ro a (m .0) s (at + x .length) (next st x)) ∙ (rw d at (rest (m .0) (m .1)));
-          counts = omega arith;
+          same = g (λ x. foldBy limited on end ro a (m .0) s (at + x .length) (next st x)) ∙ (rw d at (rest (m .0) (m .1)));
         }

@@ -8,7 +8,7 @@ use lib.ListN.{length, getD, take}
 use lib.Dec.{T, leb}
 use borrow.Author.Tests.{lt-ltb, le-ltb}
 use Rattle.rules.specs.Words.{Entry, taken, noMore}
-use Rattle.rules.specs.Descriptor.{maskBytes, lengthChecks, decodeAt}
+use Rattle.rules.specs.Descriptor.{maskBytes, lengthChecks, decodeWithin}
 use Rattle.rules.specs.Load.{sized, rwEntries, roEntries}
 use Rattle.rules.specs.Place.{nothing}
 use Rattle.rules.specs.Demands.{Accepted, lengths}
@@ -31,9 +31,10 @@ module _ (count : ℕ) (s : List ℕ) (fits : sized count s [] ≡ true) where
       (ro : Bool) {from : ℕ} {e : Entry}
       → Stands ro (maskBytes count) s from e
       → takeOf count s from ≡ taken (e .start) (e .length)
-  unfolding takeOf decodeAt lengthChecks
+  unfolding takeOf decodeWithin lengthChecks
   take-stands ro {from} {e} w =
-      let h1 = passed _ _ _ e (w .passes) in
+      let h0 = passed _ _ _ e (w .passes) in
+      let h1 = passed _ _ _ e (h0 .1) in
       let h2 = passed _ _ _ e (h1 .1) in
       rw (fits, lt-ltb from (length s) (w .left))
       (ap takenOf (sym (pass 1 _ (h1 .0) (pass 2 _ (h2 .0) refl)))

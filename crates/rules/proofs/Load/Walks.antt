@@ -8,10 +8,10 @@ use native.Mathlib.Nat.{zero-add}
 use lib.ListN.{length, getD, length-append, List·getD-append}
 use lib.Dec.{T, ltb, leb, leb→le}
 use Rattle.rules.specs.Words.{plain, Entry, Decoded, decoded, failed, State, Walked, ended, stopped, accepted, rejected}
-use Rattle.rules.specs.Descriptor.{maskBytes, decodeAt}
-use Rattle.rules.specs.Load.{start, next, intoRO, foldBy, foldOf, onward, walkOf, gather, entriesFrom, sized, after, stringsOf, loadOf, rwEntries, roEntries, entriesOf, total, mapOf}
+use Rattle.rules.specs.Descriptor.{maskBytes, decodeAt, limited, entryLimit}
+use Rattle.rules.specs.Load.{start, next, intoRO, foldBy, foldOf, onward, walkOf, gather, entriesFrom, sized, after, stringsOf, loadOf, rwEntries, roEntries, entriesOf, total, mapOf, bothWithin, entriesWithin, mapWithin, readOf, roWithin, rwWithin, stringsWithin, walkWithin}
 use Rattle.rules.specs.Place.{nothing, entry, isStaged, heldBy, lengthOf}
-use Rattle.rules.specs.Refuse.{passes, check9, check1to7}
+use Rattle.rules.specs.Refuse.{passes, check9, checkEntries}
 use Rattle.rules.specs.Demands.{Accepted}
 use Rattle.rules.proofs.Basics.Tests.{and₄, by-test, from-true, is-true}
 use Rattle.rules.proofs.Place.AcceptedMap.{Good, GoodMap}
@@ -46,13 +46,13 @@ module _ (ro : Bool) (a : ℕ) (s : List ℕ) (end : State) where
       let off : e .offset ≡ st .sum = ap (λ (x : Entry). x .offset) (p .entry) in
       record { counts = omega arith; sums = omega arith; most = r .most; good = (p .good, off, r .good) }
 
-  by-fuel : (f at : ℕ) (st : State) → st .sum ≤ 256 → foldBy onward ended ro a f s at st ≡ ended end → Listed st end (foldBy gather (λ _. []) ro a f s at st)
+  by-fuel : (f at : ℕ) (st : State) → st .sum ≤ 256 → foldBy limited onward ended ro a f s at st ≡ ended end → Listed st end (foldBy limited gather (λ _. []) ro a f s at st)
   unfolding foldBy
   by-fuel zero at st g h = here st end g h
   by-fuel (suc f) at st g h =
       turned at st
-      (λ e. foldBy onward ended ro a f s (at + e .length) (next st e))
-      (λ e. foldBy gather (λ _. []) ro a f s (at + e .length) (next st e))
+      (λ e. foldBy limited onward ended ro a f s (at + e .length) (next st e))
+      (λ e. foldBy limited gather (λ _. []) ro a f s (at + e .length) (next st e))
       (λ e. by-fuel f (at + e .length) (next st e))
       g
       (ltb at (length s))
@@ -61,32 +61,42 @@ module _ (ro : Bool) (a : ℕ) (s : List ℕ) (end : State) where
       h
 
   pub walk-listed : (at : ℕ) (st : State) → st .sum ≤ 256 → walkOf ro a s at st ≡ ended end → Listed st end (entriesFrom ro a s at st)
-  unfolding walkOf foldOf entriesFrom
+  unfolding walkWithin foldOf entriesWithin
   walk-listed at st g h = by-fuel (length s) at st g h
 
--- a walk counts at most one entry for each byte
-few-by : (ro : Bool) (a f : ℕ) (s : List ℕ) (at : ℕ) (st : State) → length (foldBy gather (λ _. []) ro a f s at st) ≤ f
+-- no walk passes more entries of a string than the limit
+few-by :
+    (ro : Bool) (a f : ℕ) (s : List ℕ) (at : ℕ) (st : State)
+    → st .number ≤ st .first + entryLimit
+    → st .number + length (foldBy limited gather (λ _. []) ro a f s at st) ≤ st .first + entryLimit
 unfolding foldBy
-few-by ro a zero s at st = omega arith
-few-by ro a (suc f) s at st = go (ltb at (length s)) (decodeAt ro a s at st) (λ e. few-by ro a f s (at + e .length) (next st e))
+few-by ro a zero s at st h = omega arith
+few-by ro a (suc f) s at st h = go (ltb at (length s)) (decodeAt ro a s at st) refl (λ e. few-by ro a f s (at + e .length) (next st e))
   where
     rest : Entry → List Entry
-    rest e = foldBy gather (λ _. []) ro a f s (at + e .length) (next st e)
+    rest e = foldBy limited gather (λ _. []) ro a f s (at + e .length) (next st e)
 
-    go : (b : Bool) (d : Decoded) → ((e : Entry) → length (rest e) ≤ f) → length (cond b (gather d st rest) []) ≤ suc f
-    go false d r = omega arith
-    go true (failed n) r = omega arith
-    go true (decoded e) r = omega (arith, r e)
+    go :
+        (b : Bool) (d : Decoded)
+        → decodeAt ro a s at st ≡ d
+        → ((e : Entry) → st .number + 1 ≤ st .first + entryLimit → st .number + 1 + length (rest e) ≤ st .first + entryLimit)
+        → st .number + length (cond b (gather d st rest) []) ≤ st .first + entryLimit
+    go false d q ih = omega arith
+    go true (failed n) q ih = omega arith
+    go true (decoded e) q ih =
+        let l : st .number - st .first < entryLimit = decode-passed ro a s at st e q .few in
+        omega (arith, ih e (omega arith))
 
+-- a walk of a whole string: how far its entry numbers and its sum come
 pub walk-counts :
-    (ro : Bool) (a : ℕ) (s : List ℕ) (at : ℕ) (st end : State)
-    → st .sum ≤ 256
-    → walkOf ro a s at st ≡ ended end
-    → (st .number ≤ end .number) × (end .number ≤ st .number + length s) × (end .sum ≤ 256)
-unfolding entriesFrom foldOf
-walk-counts ro a s at st end g h =
-    let l = walk-listed ro a s end at st g h in
-    let n = few-by ro a (length s) s at st in
+    (ro : Bool) (a : ℕ) (s : List ℕ) (at : ℕ) (begin end : State)
+    → begin .sum ≤ 256
+    → walkOf ro a s at (intoRO begin) ≡ ended end
+    → (begin .number ≤ end .number) × (end .number ≤ begin .number + entryLimit) × (end .sum ≤ 256)
+unfolding entriesWithin foldOf
+walk-counts ro a s at begin end g h =
+    let l = walk-listed ro a s end at (intoRO begin) g h in
+    let n = few-by ro a (length s) s at (intoRO begin) (omega arith) in
     (omega arith, omega arith, l .most)
 
 -- two lists in a row
@@ -122,23 +132,26 @@ pub record Map-accepted (count : ℕ) (rw ro : List ℕ) (n k c t : ℕ) : Type 
   pub rw-good : Good 0 (rwEntries count rw)
   pub good : Good 0 (entriesOf count rw ro)
   pub most : total (entriesOf count rw ro) ≤ 256
+  pub few : (length (rwEntries count rw) ≤ entryLimit) × (length (roEntries count rw ro) ≤ entryLimit)
   pub sized : T (sized count rw ro)
   pub strings : stringsOf count rw ro ≡ accepted n k c t
 
 module _ (count : ℕ) (first last : List ℕ) (m e : State) (p : walkOf false (maskBytes count) first 0 start ≡ ended m)
     (q : walkOf true (maskBytes count) last 0 (intoRO m) ≡ ended e) where
   ro-entries : roEntries count first last ≡ entriesFrom true (maskBytes count) last 0 (intoRO m)
-  unfolding roEntries
+  unfolding roWithin
   ro-entries = rw p
 
   both-ended : T (sized count first last) → stringsOf count first last ≡ accepted (m .number) (e .number - m .number) (m .sum) (e .sum)
       → Map-accepted count first last (m .number) (e .number - m .number) (m .sum) (e .sum)
-  unfolding rwEntries entriesOf
+  unfolding rwWithin bothWithin
   both-ended z w =
       let l = walk-listed false (maskBytes count) first m 0 start (omega arith) p in
       let r = rw (← ro-entries) at (walk-listed true (maskBytes count) last e 0 (intoRO m) (l .most) q) in
       let t = total-append (rwEntries count first) (roEntries count first last) in
       let g : m .sum ≡ 0 + total (rwEntries count first) = omega arith in
+      let c = walk-counts false (maskBytes count) first 0 start m (omega arith) p in
+      let d = walk-counts true (maskBytes count) last 0 m e (l .most) q in
       record {
         middle = m;
         end = e;
@@ -151,6 +164,7 @@ module _ (count : ℕ) (first last : List ℕ) (m e : State) (p : walkOf false (
         rw-good = l .good;
         good = good-append 0 (rwEntries count first) (roEntries count first last) (l .good) (rw g at (r .good));
         most = omega arith;
+        few = (omega arith, omega arith);
         sized = z;
         strings = w;
       }
@@ -159,7 +173,7 @@ strings-def :
     (count : ℕ) (first last : List ℕ)
     → stringsOf count first last
     ≡ after (walkOf false (maskBytes count) first 0 start) (λ m. after (walkOf true (maskBytes count) last 0 (intoRO m)) (λ e. accepted (m .number) (e .number - m .number) (m .sum) (e .sum)))
-unfolding stringsOf
+unfolding stringsWithin
 strings-def count first last = refl
 
 module _ (count : ℕ) (first last : List ℕ) (n k c t : ℕ) where
@@ -201,17 +215,17 @@ module _ (count : ℕ) (first last : List ℕ) (n k c t : ℕ) where
       go true q x = strings-accepted (from-true q) x
       go false q x = let o : _≡_ {A = ℕ} 0 1 = cc in absurd (omega arith)
 
--- an accepted load passes 9 and 1 to 7, and its map is good
-pub check9-passes : (count : ℕ) (rw ro : List ℕ) → Accepted count rw ro → check9 count rw ro ≡ passes
+-- an accepted load passes 9 and the checks of the entries, and its map is good
+pub check9-passes : (count : ℕ) (rw ro : List ℕ) → Accepted count rw ro → check9 (readOf count rw ro) ≡ passes
 unfolding check9
 check9-passes count first last h = rw (is-true (sized count first last) (load-accepted count first last _ _ _ _ (h .loads) .sized))
 
-pub check1to7-passes : (count : ℕ) (rw ro : List ℕ) → Accepted count rw ro → check1to7 count rw ro ≡ passes
-unfolding check1to7
-check1to7-passes count first last h = rw (load-accepted count first last _ _ _ _ (h .loads) .strings)
+pub checkEntries-passes : (count : ℕ) (rw ro : List ℕ) → Accepted count rw ro → checkEntries (readOf count rw ro) ≡ passes
+unfolding checkEntries
+checkEntries-passes count first last h = rw (load-accepted count first last _ _ _ _ (h .loads) .strings)
 
 pub map-good : (count : ℕ) (rw ro : List ℕ) → Accepted count rw ro → GoodMap (mapOf count rw ro)
-unfolding mapOf heldBy lengthOf entriesOf
+unfolding mapWithin heldBy lengthOf bothWithin
 map-good count first last h =
     record {
       list = a .good;
@@ -239,13 +253,17 @@ map-good count first last h =
             (omega (arith, ends-all 0 (rwEntries count first) e (a .rw-good) l))
         go false l = omega (arith, ends-all 0 (rwEntries count first ++ roEntries count first last) e (a .good) l)
 
+-- no string of an accepted load has more entries than the limit
+pub load-few : (count : ℕ) (rw ro : List ℕ) → Accepted count rw ro → (length (rwEntries count rw) ≤ entryLimit) × (length (roEntries count rw ro) ≤ entryLimit)
+load-few count first last ok = load-accepted count first last _ _ _ _ (ok .loads) .few
+
 -- the counts and lengths that an accepted load answers: of the RW and the RO entries, the RW sum and the sum of all
 pub load-counts :
     (count : ℕ) (rw ro : List ℕ)
     → Accepted count rw ro
     → loadOf count rw ro
     ≡ accepted (length (rwEntries count rw)) (length (roEntries count rw ro)) (total (rwEntries count rw)) (total (rwEntries count rw ++ roEntries count rw ro))
-unfolding entriesOf
+unfolding bothWithin
 load-counts count first last ok =
     let a = load-accepted count first last _ _ _ _ (ok .loads) in
     ok .loads ∙ rw (a .rwCount, a .roCount, a .staged, a .active) refl

@@ -8,9 +8,9 @@ use lib.ListN.{length}
 use lib.Dec.{ltb}
 use borrow.Author.Tests.{ltb-true, ltb-false, lt-ltb, le-ltb}
 use Rattle.rules.specs.Words.{Refusal, plain, rejected, read, placedAt, notPlaced, notOwned}
-use Rattle.rules.specs.Load.{Map, loadOf, mapOf}
+use Rattle.rules.specs.Load.{Map, loadOf, mapOf, readOf}
 use Rattle.rules.specs.Place.{entry, isSet, isStaged, isRW, hasField, heldBy, lengthOf, fieldByte, fieldBit, ownerOf}
-use Rattle.rules.specs.Refuse.{Verdict, passes, refuses, refuseIf, firstOf, check9, check1to7, orderOf, exists, misdirected, unaccepted, judge}
+use Rattle.rules.specs.Refuse.{Verdict, passes, refuses, refuseIf, firstOf, check9, checkEntries, orderOf, exists, misdirected, unaccepted, judge}
 use Rattle.rules.specs.Beside.{placed, placeOf, ownedAs, isBit, ownerCall}
 use Rattle.rules.specs.Demands.{Accepted}
 use Rattle.rules.proofs.Basics.Tests.{and-no}
@@ -29,10 +29,10 @@ module _ (count : ℕ) (first last : List ℕ) where
     -- a call on a field that is refused, before its set is looked at
     pub place-refused :
         (r : Refusal)
-        → orderOf count first last (refuseIf (not (hasField (mapOf count first last) e p i)) (plain 10) ∷ []) ≡ refuses r
+        → orderOf (readOf count first last) (refuseIf (not (hasField (mapOf count first last) e p i)) (plain 10) ∷ []) ≡ refuses r
         → notPlaced r ≡ placeOf count first last s e p i
     unfolding orderOf placeOf judge exists
-    place-refused r h = go (check9 count first last) (check1to7 count first last) (hasField m e p i) h
+    place-refused r h = go (check9 (readOf count first last)) (checkEntries (readOf count first last)) (hasField m e p i) h
       where
         go : (a b : Verdict) (t : Bool) → firstOf (a ∷ b ∷ refuseIf (not t) (plain 10) ∷ []) ≡ refuses r
             → notPlaced r

@@ -20,7 +20,7 @@ use Rattle.rules.proofs.Basics.Tests.{and₂, either, is-true, is-false
 use Rattle.rules.proofs.Table.Columns.{accepts-says, shape-says, sign-says}
 use Rattle.rules.proofs.Place.Lanes.{width-pos}
 use Rattle.rules.proofs.Place.AcceptedMap.{Good, GoodMap, held-lt}
-use Rattle.rules.proofs.Load.Walks.{map-good, load-counts, check9-passes, check1to7-passes}
+use Rattle.rules.proofs.Load.Walks.{map-good, load-counts, load-few, check9-passes, checkEntries-passes}
 use Rattle.rules.proofs.Place.Fields.{holds-field, covers-bit, field-width, in-entry, in-byte}
 use Rattle.rules.proofs.Lists.Allowed.{read-field}
 use Rattle.rules.proofs.Load.Fills.{filled-extras, rw-filled, ro-filled, rw-fills, ro-fills}
@@ -76,7 +76,7 @@ module _ (count : ℕ) (first last : List ℕ) (ok : Accepted count first last) 
   place-is : (s e p i : ℕ) → placeOf count first last s e p i ≡ placed (firstOf (judge m (read s e p i))) (placedAt (fieldByte (entry m e) p i) (fieldBit (entry m e) i))
   unfolding placeOf m
   place-is s e p i =
-      rw (order-open count first last (check9-passes count first last ok) (check1to7-passes count first last ok) (judge (mapOf count first last) (read s e p i)))
+      rw (order-open count first last (check9-passes count first last ok) (checkEntries-passes count first last ok) (judge (mapOf count first last) (read s e p i)))
 
   place-field : (s e p i : ℕ) → Field m s e p i → placeOf count first last s e p i ≡ placedAt (fieldByte (entry m e) p i) (fieldBit (entry m e) i)
   place-field s e p i f = rw (place-is s e p i, field-reads m g f) refl
@@ -97,7 +97,7 @@ module _ (count : ℕ) (first last : List ℕ) (ok : Accepted count first last) 
   owner-call : (s k q : ℕ) → ownerCall count first last s k q ≡ owned (firstOf (refuseIf (not (isBit m s k q)) (plain 10) ∷ [])) (ownedAs (ownerOf m s k q))
   unfolding ownerCall m
   owner-call s k q =
-      rw (order-open count first last (check9-passes count first last ok) (check1to7-passes count first last ok) (refuseIf (not (isBit (mapOf count first last) s k q)) (plain 10) ∷ []))
+      rw (order-open count first last (check9-passes count first last ok) (checkEntries-passes count first last ok) (refuseIf (not (isBit (mapOf count first last) s k q)) (plain 10) ∷ []))
 
   owner-in : (s k q : ℕ) → T (isBit m s k q) → ownerCall count first last s k q ≡ ownedAs (ownerOf m s k q)
   owner-in s k q h = rw (owner-call s k q, is-true (isBit m s k q) h) refl
@@ -174,6 +174,7 @@ module _ (count : ℕ) (first last : List ℕ) (ok : Accepted count first last) 
         rw-fills = rw-fills count first last ok;
         ro-fills = ro-fills count first last ok;
         loads = load-counts count first last ok;
+        few = load-few count first last ok;
         offsets = λ e h. omega (arith, offset-at 0 (m .entries) (g .list) e h);
         own-bytes = entry-own count first last ok;
         accepted-values = λ e v. accepts-says (entry m e) v;

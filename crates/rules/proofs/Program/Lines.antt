@@ -8,7 +8,7 @@ use native.Mathlib.Omega.{arith}
 use lib.ListN.{length}
 use Rattle.rules.specs.Words.{Entry, State, ended}
 use Rattle.rules.specs.Descriptor.{maskBytes}
-use Rattle.rules.specs.Load.{start, intoRO, walkOf, entriesFrom, rwEntries, roEntries, entriesOf}
+use Rattle.rules.specs.Load.{start, intoRO, walkOf, entriesFrom, entriesOf, bothWithin, roWithin, rwWithin}
 use Rattle.rules.specs.MapProgram.{entryLines}
 use Rattle.rules.proofs.Load.Walks.{walk-listed}
 
@@ -25,7 +25,7 @@ pub lines-both :
     → walkOf false (maskBytes count) rw 0 start ≡ ended m
     → entryLines 0 (entriesOf count rw ro)
     ≡ entryLines 0 (entriesFrom false (maskBytes count) rw 0 start) ++ entryLines (m .number) (entriesFrom true (maskBytes count) ro 0 (intoRO m))
-unfolding entriesOf rwEntries roEntries
+unfolding bothWithin rwWithin roWithin
 lines-both count first last m h =
     let l = walk-listed false (maskBytes count) first m 0 start (omega arith) h in
     let q : 0 + length (entriesFrom false (maskBytes count) first 0 start) ≡ m .number = sym (l .counts) in

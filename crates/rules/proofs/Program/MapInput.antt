@@ -11,7 +11,7 @@ use lib.Dec.{T, leb, leb→le}
 use borrow.Author.Tests.{eqb-true, leb-false}
 use Rattle.rules.specs.Words.{plain}
 use Rattle.rules.specs.Descriptor.{byteAt}
-use Rattle.rules.specs.Load.{sized, loadOf, entriesOf}
+use Rattle.rules.specs.Load.{sized, loadOf, entriesOf, mapWithin}
 use Rattle.rules.specs.MapProgram.{rwSize, roSize, rwBytes, roBytes, isWhole, refusedLine, mapText, mapOutput}
 use Rattle.rules.proofs.Basics.Tests.{and₄, from-true, either, is-false}
 use Rattle.rules.proofs.Load.Loads.{load-9}
@@ -27,7 +27,7 @@ module _ (input : List ℕ) where
       ≡ mapText
       (loadOf (byteAt input 0) (rwBytes input) (roBytes input))
       (entriesOf (byteAt input 0) (rwBytes input) (roBytes input))
-  unfolding mapOutput
+  unfolding mapOutput loadOf mapWithin
   map-whole h = rw h
 
 too-long : (count : ℕ) (rw ro : List ℕ) → 240 < length rw + length ro → sized count rw ro ≡ false

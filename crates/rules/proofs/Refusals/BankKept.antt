@@ -7,7 +7,7 @@ use lib.ListN.{length, set, drop, replicate, length-append, length-drop, length-
 use lib.Dec.{ltb, ltb→lt}
 use lib.Seq.{drop-set-lt, drop-at}
 use Rattle.rules.specs.Words.{Refusal, rejected, Call, select, write, read, byteWrite, byteRead, publish, apply, refused}
-use Rattle.rules.specs.Load.{loadOf, Map, mapOf}
+use Rattle.rules.specs.Load.{loadOf, Map, mapOf, readOf}
 use Rattle.rules.specs.Place.{isSet, lengthOf, Field}
 use Rattle.rules.specs.Layout.{bankSize, setStart, appSelAt}
 use Rattle.rules.specs.Refuse.{Verdict, passes, refuses, decide, exists, judge, bankOrder}
@@ -62,12 +62,12 @@ module _ (m : Map) (g : GoodMap m) where
 module _ (count : ℕ) (first last : List ℕ) (b : Bank) where
   pub call-keeps : (c : Call) → Keeps b (bankCall count first last c b .1) ((x : Refusal) × (bankCall count first last c b .0 ≡ refused x))
   unfolding bankCall
-  call-keeps c = go (bankOrder count first last (length b) (judge (mapOf count first last) c ++ bankPlan (mapOf count first last) c b)) refl
+  call-keeps c = go (bankOrder (readOf count first last) (length b) (judge (mapOf count first last) c ++ bankPlan (mapOf count first last) c b)) refl
     where
       m : Map
       m = mapOf count first last
 
-      go : (v : Verdict) → bankOrder count first last (length b) (judge m c ++ bankPlan m c b) ≡ v
+      go : (v : Verdict) → bankOrder (readOf count first last) (length b) (judge m c ++ bankPlan m c b) ≡ v
           → Keeps b (decide v b (bankDoes m c b) .1) ((x : Refusal) × (decide v b (bankDoes m c b) .0 ≡ refused x))
       go (refuses r) q = record { size = refl; beyond = refl; whole = λ _. refl }
       go passes q =
@@ -86,10 +86,10 @@ module _ (count : ℕ) (first last : List ℕ) (b : Bank) where
       (omega (arith, length-append (replicate n 0) (drop n b), length-drop n b), drop-at (replicate n 0) (drop n b) n l)
 
   pub fresh-keeps : Keeps b (freshCall count first last b .1) ((x : Refusal) × (freshCall count first last b .0 ≡ rejected x))
-  unfolding freshCall freshBank
-  fresh-keeps = go (bankOrder count first last (length b) []) refl
+  unfolding freshCall freshBank loadOf
+  fresh-keeps = go (bankOrder (readOf count first last) (length b) []) refl
     where
-      go : (v : Verdict) → bankOrder count first last (length b) [] ≡ v
+      go : (v : Verdict) → bankOrder (readOf count first last) (length b) [] ≡ v
           → Keeps b (freshened v (loadOf count first last) b .1) ((x : Refusal) × (freshened v (loadOf count first last) b .0 ≡ rejected x))
       go (refuses r) q = record { size = refl; beyond = refl; whole = λ _. refl }
       go passes q =

@@ -1,4 +1,4 @@
--- The laws of `bankCall` that a function's proof cites, one for each way out, in 01's order: 9, 8, 1 to 7, 10, 11, 12, then what is left.
+-- The laws of `bankCall` that a function's proof cites, one for each way out, in the order 9, 8, the entries', 10, 11, 12, then what is left.
 use mathlib.Core.Path.{_≡_, refl, sym, ap, _∙_}
 use mathlib.Core.Bool.{true, false}
 use mathlib.Core.List.{List, _++_}
@@ -6,9 +6,9 @@ use Prim.Native.Nat.{ℕ, _≤_, _<_}
 use lib.ListN.{length}
 use borrow.Author.Tests.{lt-ltb, le-ltb}
 use Rattle.rules.specs.Words.{Refusal, plain, rejected, Call, refused}
-use Rattle.rules.specs.Load.{Map, sized, stringsOf, mapOf}
+use Rattle.rules.specs.Load.{Map, sized, stringsOf, mapOf, readOf}
 use Rattle.rules.specs.Layout.{bankSize}
-use Rattle.rules.specs.Refuse.{Verdict, passes, refuses, firstOf, check9, check8, check1to7, orderOf, bankOrder, exists, misdirected, unaccepted, judge}
+use Rattle.rules.specs.Refuse.{Verdict, passes, refuses, firstOf, check9, check8, checkEntries, orderOf, bankOrder, exists, misdirected, unaccepted, judge}
 use Rattle.rules.specs.Bank.{Bank, bankPlan, bankDoes, bankCall}
 
 -- judge, and what follows it
@@ -31,36 +31,36 @@ module _ (m : Map) (c : Call) (rest : List Verdict) where
 
 -- the order with and without a bank
 module _ (count : ℕ) (first last : List ℕ) (rest : List Verdict) where
-  pub order-9 : sized count first last ≡ false → orderOf count first last rest ≡ refuses (plain 9)
+  pub order-9 : sized count first last ≡ false → orderOf (readOf count first last) rest ≡ refuses (plain 9)
   unfolding orderOf check9
   order-9 h = rw h
 
-  pub order-1to7 : sized count first last ≡ true → (r : Refusal) → stringsOf count first last ≡ rejected r → orderOf count first last rest ≡ refuses r
-  unfolding orderOf check9 check1to7
-  order-1to7 h r k = rw (h, k)
+  pub order-entries : sized count first last ≡ true → (r : Refusal) → stringsOf count first last ≡ rejected r → orderOf (readOf count first last) rest ≡ refuses r
+  unfolding orderOf check9 checkEntries
+  order-entries h r k = rw (h, k)
 
-  pub bank-order-9 : (size : ℕ) → sized count first last ≡ false → bankOrder count first last size rest ≡ refuses (plain 9)
+  pub bank-order-9 : (size : ℕ) → sized count first last ≡ false → bankOrder (readOf count first last) size rest ≡ refuses (plain 9)
   unfolding bankOrder check9
   bank-order-9 size h = rw h
 
-  pub bank-order-8 : (size : ℕ) → sized count first last ≡ true → size < bankSize → bankOrder count first last size rest ≡ refuses (plain 8)
+  pub bank-order-8 : (size : ℕ) → sized count first last ≡ true → size < bankSize → bankOrder (readOf count first last) size rest ≡ refuses (plain 8)
   unfolding bankOrder check9 check8
   bank-order-8 size h l = rw (h, lt-ltb size bankSize l)
 
-  pub bank-order-1to7 :
+  pub bank-order-entries :
       (size : ℕ)
       → sized count first last ≡ true
       → bankSize ≤ size
       → (r : Refusal)
       → stringsOf count first last ≡ rejected r
-      → bankOrder count first last size rest ≡ refuses r
-  unfolding bankOrder check9 check8 check1to7
-  bank-order-1to7 size h l r k = rw (h, le-ltb size bankSize l, k)
+      → bankOrder (readOf count first last) size rest ≡ refuses r
+  unfolding bankOrder check9 check8 checkEntries
+  bank-order-entries size h l r k = rw (h, le-ltb size bankSize l, k)
 
 -- a bank call, from its verdict
 module _ (count : ℕ) (first last : List ℕ) (c : Call) (b : Bank) where
   abbrev order : Verdict
-  order = bankOrder count first last (length b) (judge (mapOf count first last) c ++ bankPlan (mapOf count first last) c b)
+  order = bankOrder (readOf count first last) (length b) (judge (mapOf count first last) c ++ bankPlan (mapOf count first last) c b)
 
   pub call-refused : (r : Refusal) → order ≡ refuses r → bankCall count first last c b ≡ (refused r, b)
   unfolding bankCall

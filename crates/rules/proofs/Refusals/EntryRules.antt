@@ -1,4 +1,4 @@
--- The checks of one entry, 1 to 7, against the rules of 01: the first check that an entry fails is the first rule that applies.
+-- The checks of one entry, 16 and 1 to 7, against the rules of 01 and 02: the first check that an entry fails is the first rule that applies.
 use mathlib.Core.Path.{_≡_, refl}
 use mathlib.Core.Logic.{_↔_, Iff·trans}
 use mathlib.Core.Bool.{Bool, true, false, _&&_, not}
@@ -10,7 +10,7 @@ use lib.Dec.{T, ltb, leb, eqb}
 use borrow.Author.Tests.{lt-leb}
 use Rattle.rules.specs.Words.{Entry, Decoded, decoded, failed, State}
 use Rattle.rules.specs.Parameter.{both, rows, space, rowOf}
-use Rattle.rules.specs.Descriptor.{byteAt, entryAt, mayStand, lateHost, refuse, lengthChecks, contentChecks, decodeAt}
+use Rattle.rules.specs.Descriptor.{byteAt, entryAt, mayStand, lateHost, refuse, lengthChecks, contentChecks, decodeAt, decodeWithin}
 use Rattle.rules.specs.Conditions.{Rule, gives, First, WrongString, MediaSide, entryRules}
 use Rattle.rules.proofs.Basics.Tests.{and-no}
 use Rattle.rules.proofs.Basics.Facts.{lt-says, le-says, eq-says, true-says, not-says, or-says, and-says, and-says₄}
@@ -75,18 +75,19 @@ module _ (a : ℕ) (s : List ℕ) (at : ℕ) (st : State) where
       and-says₄ (leb 2 id) (leb id 8) (not m) (st .media) (le-says 2 id) (le-says id 8) (not-says m media-says) (true-says (st .media))
 
   entry-fails : (ro : Bool) → Fails (decodeAt ro a s at st) (entryRules ro a s at st)
-  unfolding decodeAt lengthChecks contentChecks
+  unfolding decodeWithin lengthChecks contentChecks
   entry-fails ro =
       let e : Entry = entryAt a s at (st .sum) in
       let left : ℕ = length s - at in
-      before _ 1 (or-says (eqb left 1) (ltb left (e .length)) (eq-says left 1) (lt-says left (e .length)))
+      before _ 16 (le-says 16 (st .number - st .first))
+      (before _ 1 (or-says (eqb left 1) (ltb left (e .length)) (eq-says left 1) (lt-says left (e .length)))
       (before _ 2 (least-says (e .id) a (e .length))
       (before _ 3 (side-says ro (e .id))
       (before _ 4 (needed-says (e .id) (e .memory))
       (before _ 5 (step-says (e .id) s (at + 4 + a))
       (before _ 6 late-says
       (before _ 7 (lt-says 256 (st .sum + e .memory))
-      (passed-all e)))))))
+      (passed-all e))))))))
 
 pub entry-says : (ro : Bool) (a : ℕ) (s : List ℕ) (at : ℕ) (st : State) (n : ℕ) → (decodeAt ro a s at st ≡ failed n) ↔ First (entryRules ro a s at st) n
 entry-says ro a s at st = entry-fails a s at st ro .is

@@ -8,11 +8,11 @@ use native.Mathlib.Omega.{arith}
 use lib.ListN.{length}
 use lib.Dec.{T, ltb, leb, eqb}
 use Rattle.rules.specs.Words.{Refusal, plain, Loaded, accepted, rejected, Call, select, write, read, byteWrite, byteRead, publish, apply}
-use Rattle.rules.specs.Load.{Map, sized, stringsOf}
+use Rattle.rules.specs.Load.{Map, sized, stringsOf, readOf}
 use Rattle.rules.specs.Place.{entry, partsOf, isSet, isStaged, isRW, isLane, hasField, lengthOf}
 use Rattle.rules.specs.Accept.{accepts}
 use Rattle.rules.specs.Layout.{bankSize}
-use Rattle.rules.specs.Refuse.{Verdict, refuses, check9, check8, refusalOf, check1to7, exists, misdirected, unaccepted, judge, bankOrder, orderOf}
+use Rattle.rules.specs.Refuse.{Verdict, refuses, check9, check8, refusalOf, checkEntries, exists, misdirected, unaccepted, judge, bankOrder, orderOf}
 use Rattle.rules.specs.Bank.{Bank}
 use Rattle.rules.specs.Conditions.{Rule, gives, First, Sized, Lane, HasField, Exists, Misdirected, Unaccepted, stringsRule, callRules, stringRules, bankRules}
 use Rattle.rules.proofs.Basics.Facts.{lt-says, le-says, eq-says, not-says, or-says, and-says, and-says₃, and-says₄}
@@ -75,7 +75,7 @@ module _ (m : Map) where
       (also (refuse-says (misdirected m c) (plain 11) (misdirected-says c))
       (also (refuse-says (unaccepted m c) (plain 12) (unaccepted-says c)) none))
 
--- 1 to 7
+-- the checks of the entries
 pub refusal-of : (l : Loaded) (x : Refusal) → (refusalOf l ≡ refuses x) ↔ (l ≡ rejected x)
 refusal-of (accepted n k c t) x =
     (λ h. let o : _≡_ {A = ℕ} 0 1 = cc in absurd (omega arith), λ h. let o : _≡_ {A = ℕ} 0 1 = cc in absurd (omega arith))
@@ -87,23 +87,23 @@ module _ (count : ℕ) (first last : List ℕ) where
       and-says₄ (leb 1 count) (leb count 15) (leb (length first) 120) (leb (length last) 120)
       (le-says 1 count) (le-says count 15) (le-says _ 120) (le-says _ 120)
 
-  check9-says : Says (check9 count first last) (gives (plain 9) (¬ (Sized count first last)))
+  check9-says : Says (check9 (readOf count first last)) (gives (plain 9) (¬ (Sized count first last)))
   unfolding check9
   check9-says = refuse-not-says (sized count first last) (plain 9) sized-says
 
-  check1to7-says : Says (check1to7 count first last) (stringsRule count first last)
-  unfolding check1to7
-  check1to7-says x = Iff·trans (refusal-of (stringsOf count first last) x) (strings-says count first last x)
+  checkEntries-says : Says (checkEntries (readOf count first last)) (stringsRule count first last)
+  unfolding checkEntries
+  checkEntries-says x = Iff·trans (refusal-of (stringsOf count first last) x) (strings-says count first last x)
 
-  -- the orders, with what follows 1 to 7
+  -- the orders, with what follows the checks of the entries
   module _ {l : List Verdict} {rules : List (Rule Refusal)} (h : AllSay l rules) where
-    pub order-says : Says (orderOf count first last l) (First (stringRules count first last rules))
+    pub order-says : Says (orderOf (readOf count first last) l) (First (stringRules count first last rules))
     unfolding orderOf
-    order-says = first-says (also check9-says (also check1to7-says h))
+    order-says = first-says (also check9-says (also checkEntries-says h))
 
-    pub bank-says : (b : Bank) → Says (bankOrder count first last (length b) l) (First (bankRules count first last b rules))
+    pub bank-says : (b : Bank) → Says (bankOrder (readOf count first last) (length b) l) (First (bankRules count first last b rules))
     unfolding bankOrder check8
     bank-says b =
         first-says
         (also check9-says
-        (also (refuse-says (ltb (length b) bankSize) (plain 8) (lt-says (length b) bankSize)) (also check1to7-says h)))
+        (also (refuse-says (ltb (length b) bankSize) (plain 8) (lt-says (length b) bankSize)) (also checkEntries-says h)))

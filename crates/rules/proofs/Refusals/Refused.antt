@@ -9,10 +9,10 @@ use lib.IntN.{ℤ}
 use lib.ListN.{length}
 use lib.Dec.{T, ltb, eqb}
 use Rattle.rules.specs.Words.{Refusal, plain, Loaded, accepted, rejected, Call, select, write, read, byteWrite, byteRead, publish, apply, saysYes, number, refused, placedAt, notPlaced, notOwned}
-use Rattle.rules.specs.Load.{sized, stringsOf, loadOf, Map, mapOf}
+use Rattle.rules.specs.Load.{sized, stringsOf, loadOf, Map, mapOf, readOf}
 use Rattle.rules.specs.Place.{entry, isSet, isLane, lengthOf, fieldByte, fieldBit, Owner, field, gap, ownerOf}
 use Rattle.rules.specs.Accept.{weightOf}
-use Rattle.rules.specs.Refuse.{Verdict, passes, refuses, refuseIf, firstOf, decide, check9, refusalOf, check1to7, orderOf}
+use Rattle.rules.specs.Refuse.{Verdict, passes, refuses, refuseIf, firstOf, decide, check9, refusalOf, checkEntries, orderOf}
 use Rattle.rules.specs.Bank.{Bank, numberIn, bankDoes, bankCall, freshened, freshCall}
 use Rattle.rules.specs.Beside.{placed, placeOf, ownedAs, owned, isBit, ownerCall, answered, entryVerdict, entryAnswer, isWeighed, weightCall}
 use Rattle.rules.specs.Conditions.{Rule, gives, First, Lane, planRules, callRules, stringRules, bankRules}
@@ -69,8 +69,8 @@ module _ (count : ℕ) (first last : List ℕ) where
   m = mapOf count first last
 
   -- the calls that take no bank
-  load-order : refusalOf (loadOf count first last) ≡ orderOf count first last []
-  unfolding loadOf orderOf check9 check1to7
+  load-order : refusalOf (loadOf count first last) ≡ orderOf (readOf count first last) []
+  unfolding loadOf orderOf check9 checkEntries
   load-order = go (sized count first last) (stringsOf count first last)
     where
       go : (t : Bool) (l : Loaded) → refusalOf (cond t l (rejected (plain 9))) ≡ firstOf (refuseIf (not t) (plain 9) ∷ refusalOf l ∷ [])
@@ -148,7 +148,7 @@ module _ (count : ℕ) (first last : List ℕ) where
         (λ _. does-answers m c b)
 
     pub fresh-says : (x : Refusal) → (freshCall count first last b .0 ≡ rejected x) ↔ First (bankRules count first last b []) x
-    unfolding freshCall
+    unfolding freshCall loadOf
     fresh-says =
         answer-says rejected (λ x y h. cc) (λ v. freshened v (loadOf count first last) b .0) (λ r. refl) _
         (bank-says count first last none b)

@@ -9,8 +9,8 @@ use lib.ListN.{length}
 use lib.Dec.{ltb}
 use borrow.Author.Tests.{ltb-true, ltb-false}
 use Rattle.rules.specs.Words.{Refusal, Entry, Decoded, decoded, failed, State, Walked, ended, stopped, rejected}
-use Rattle.rules.specs.Descriptor.{maskBytes, decodeAt}
-use Rattle.rules.specs.Load.{start, next, intoRO, foldBy, foldOf, onward, walkOf, stringsOf}
+use Rattle.rules.specs.Descriptor.{maskBytes, decodeAt, limited}
+use Rattle.rules.specs.Load.{start, next, intoRO, foldBy, foldOf, onward, walkOf, stringsOf, walkWithin}
 use Rattle.rules.specs.Conditions.{Way, here, past, Stops, Ends, stringsRule}
 use Rattle.rules.proofs.Load.Checks.{decode-passed}
 use Rattle.rules.proofs.Load.Folds.{Folded, begin, done, out, turn}
@@ -34,13 +34,13 @@ module _ (ro : Bool) (a : ℕ) (s : List ℕ) where
   earlier at st e l d (stopped x) h =
       record { at = h .at; st = h .st; way = past e l d (h .way); left = h .left; number = h .number; fails = h .fails; says = h .says }
 
-  by-fuel : (f at : ℕ) (st : State) → length s ≤ at + f → Comes at st (foldBy onward ended ro a f s at st)
+  by-fuel : (f at : ℕ) (st : State) → length s ≤ at + f → Comes at st (foldBy limited onward ended ro a f s at st)
   unfolding foldBy
   by-fuel zero at st g = record { at = at; way = here; none = omega arith }
   by-fuel (suc f) at st g = go (ltb at (length s)) refl (decodeAt ro a s at st) refl (λ e. by-fuel f (at + e .length) (next st e))
     where
       rest : Entry → Walked
-      rest e = foldBy onward ended ro a f s (at + e .length) (next st e)
+      rest e = foldBy limited onward ended ro a f s (at + e .length) (next st e)
 
       go : (b : Bool) → ltb at (length s) ≡ b → (d : Decoded) → decodeAt ro a s at st ≡ d
           → ((e : Entry) → length s ≤ at + e .length + f → Comes (at + e .length) (next st e) (rest e)) → Comes at st (cond b (onward d st rest) (ended st))
@@ -59,14 +59,14 @@ module _ (ro : Bool) (a : ℕ) (s : List ℕ) where
   along r (past e l d w) = along (turn r l e d (λ k. refl)) w
 
   pub walk-stops : (at : ℕ) (st : State) (x : Refusal) → (walkOf ro a s at st ≡ stopped x) ↔ Stops ro a s at st x
-  unfolding walkOf foldOf
+  unfolding walkWithin foldOf
   walk-stops at st x = (λ q. rw q at (by-fuel (length s) at st (omega arith)), back)
     where
       back : Stops ro a s at st x → walkOf ro a s at st ≡ stopped x
       back h = rw (h .says) (sym (out (along (begin onward ended ro a s at st) (h .way)) (h .left) _ (λ k. rw (h .fails) refl)))
 
   pub walk-ends : (at : ℕ) (st e : State) → (walkOf ro a s at st ≡ ended e) ↔ Ends ro a s at st e
-  unfolding walkOf foldOf
+  unfolding walkWithin foldOf
   walk-ends at st e =
       (λ q. rw q at (by-fuel (length s) at st (omega arith)), λ h. sym (done (along (begin onward ended ro a s at st) (h .way)) (h .none)))
 

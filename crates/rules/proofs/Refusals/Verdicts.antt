@@ -8,8 +8,8 @@ use lib.Dec.{T}
 use borrow.Author.Tests.{le-ltb}
 use Rattle.rules.specs.Words.{Refusal, plain, Call, Answer, refused}
 use Rattle.rules.specs.Layout.{bankSize}
-use Rattle.rules.specs.Load.{Map}
-use Rattle.rules.specs.Refuse.{Verdict, passes, refuses, refuseIf, firstOf, decide, check9, check8, check1to7, orderOf, bankOrder, exists, misdirected, unaccepted, judge}
+use Rattle.rules.specs.Load.{Map, readOf}
+use Rattle.rules.specs.Refuse.{Verdict, passes, refuses, refuseIf, firstOf, decide, check9, check8, checkEntries, orderOf, bankOrder, exists, misdirected, unaccepted, judge}
 use Rattle.rules.proofs.Basics.Tests.{is-true, is-false}
 
 -- refuseIf and firstOf
@@ -78,12 +78,12 @@ pub check8-passes : (n : ℕ) → bankSize ≤ n → check8 n ≡ passes
 unfolding check8
 check8-passes n h = rw (le-ltb n bankSize h)
 
--- past 9, 8 and 1 to 7 the rest decides
-module _ (count : ℕ) (first last : List ℕ) (h₉ : check9 count first last ≡ passes) (h₁ : check1to7 count first last ≡ passes) where
-  pub order-open : (rest : List Verdict) → orderOf count first last rest ≡ firstOf rest
+-- past 9, 8 and the checks of the entries the rest decides
+module _ (count : ℕ) (first last : List ℕ) (h₉ : check9 (readOf count first last) ≡ passes) (h₁ : checkEntries (readOf count first last) ≡ passes) where
+  pub order-open : (rest : List Verdict) → orderOf (readOf count first last) rest ≡ firstOf rest
   unfolding orderOf
   order-open rest = rw (h₉, h₁)
 
-  pub bank-order-open : (size : ℕ) (rest : List Verdict) → bankSize ≤ size → bankOrder count first last size rest ≡ firstOf rest
+  pub bank-order-open : (size : ℕ) (rest : List Verdict) → bankSize ≤ size → bankOrder (readOf count first last) size rest ≡ firstOf rest
   unfolding bankOrder
   bank-order-open size rest l = rw (h₉, check8-passes size l, h₁)

@@ -8,11 +8,11 @@ use lib.ListN.{replicate, length-replicate}
 use Rattle.rules.specs.Words.{plain, atLane, Call, select, write, read, byteWrite, byteRead, publish, apply, Answer, saysYes, number, refused}
 use Rattle.rules.specs.Numbers.{sum, any, lowest}
 use Rattle.rules.specs.Parameter.{rowOf}
-use Rattle.rules.specs.Descriptor.{maskBytes, highFirst, codesOf, byteOf, refuse, lengthChecks, contentChecks, decodeAt}
-use Rattle.rules.specs.Load.{foldBy, foldOf, walkOf, entriesFrom, stringsOf, loadOf, rwEntries, roEntries, entriesOf, total, mapOf}
+use Rattle.rules.specs.Descriptor.{maskBytes, highFirst, codesOf, byteOf, refuse, lengthChecks, contentChecks, decodeWithin}
+use Rattle.rules.specs.Load.{foldBy, foldOf, loadOf, total, bothWithin, entriesWithin, mapWithin, roWithin, rwWithin, stringsWithin, walkWithin}
 use Rattle.rules.specs.Place.{partsOf, widthOf, signedOf, heldBy, lengthOf, firstOwner, ownerOf}
 use Rattle.rules.specs.Accept.{within, inMask, takes, accepts, toBits, fromBits}
-use Rattle.rules.specs.Refuse.{check9, check8, check1to7, exists, misdirected, unaccepted, judge, atLowest, bankOrder, orderOf}
+use Rattle.rules.specs.Refuse.{check9, check8, checkEntries, exists, misdirected, unaccepted, judge, atLowest, bankOrder, orderOf}
 use Rattle.rules.specs.Layout.{bankSize, hasBytes, setStart, appSelStart, appSelAt}
 use Rattle.rules.specs.Bank.{Bank, getField, putField, numberIn, withNumber, fieldBits, bankLacksApp, bankCopies, bankHoldsBad, bankPlan, loop, copyField, applyBank, bankDoes, bankCall, freshBank, freshCall, bankMakes}
 use Rattle.rules.specs.Table.{byteFrom, tableLacksApp, tableCopies, tableHoldsBad, tablePlan, tableDoes, tableCall, tableMakes}
@@ -112,17 +112,17 @@ answers =
     ∷ []
 
 example-accepted : Accepted 2 rwString roString
-unfolding rowOf maskBytes highFirst codesOf byteOf refuse lengthChecks contentChecks decodeAt foldBy foldOf walkOf stringsOf loadOf
+unfolding rowOf maskBytes highFirst codesOf byteOf refuse lengthChecks contentChecks decodeWithin foldBy foldOf walkWithin stringsWithin loadOf
 example-accepted = record { rwCount = 4; roCount = 1; staged = 16; active = 24; loads = refl }
 
 -- the bank machine, computed
 pub example-bank : bankRun 2 rwString roString bank (map call calls) .0 ≡ answers
-unfolding sum any lowest rowOf maskBytes highFirst codesOf byteOf refuse lengthChecks contentChecks decodeAt foldBy foldOf walkOf entriesFrom stringsOf loadOf rwEntries roEntries entriesOf total mapOf partsOf widthOf signedOf heldBy lengthOf firstOwner ownerOf within inMask takes accepts toBits fromBits check9 check8 check1to7 exists misdirected unaccepted judge atLowest bankOrder getField putField numberIn withNumber fieldBits bankLacksApp bankCopies bankHoldsBad bankPlan loop copyField applyBank bankDoes bankCall freshBank freshCall bankMakes run bankSize setStart appSelStart appSelAt
+unfolding sum any lowest rowOf maskBytes highFirst codesOf byteOf refuse lengthChecks contentChecks decodeWithin foldBy foldOf walkWithin entriesWithin stringsWithin loadOf rwWithin roWithin bothWithin total mapWithin partsOf widthOf signedOf heldBy lengthOf firstOwner ownerOf within inMask takes accepts toBits fromBits check9 check8 checkEntries exists misdirected unaccepted judge atLowest bankOrder getField putField numberIn withNumber fieldBits bankLacksApp bankCopies bankHoldsBad bankPlan loop copyField applyBank bankDoes bankCall freshBank freshCall bankMakes run bankSize setStart appSelStart appSelAt
 example-bank = refl
 
 -- the plain table, computed
 pub example-table : tableRun 2 rwString roString (map call calls) .0 ≡ answers
-unfolding sum any lowest rowOf maskBytes highFirst codesOf byteOf refuse lengthChecks contentChecks decodeAt foldBy foldOf walkOf entriesFrom stringsOf loadOf rwEntries roEntries entriesOf total mapOf partsOf widthOf signedOf heldBy lengthOf within inMask takes accepts toBits fromBits check9 check1to7 exists misdirected unaccepted judge atLowest orderOf byteFrom tableLacksApp tableCopies tableHoldsBad tablePlan tableDoes tableCall tableMakes run hasBytes
+unfolding sum any lowest rowOf maskBytes highFirst codesOf byteOf refuse lengthChecks contentChecks decodeWithin foldBy foldOf walkWithin entriesWithin stringsWithin loadOf rwWithin roWithin bothWithin total mapWithin partsOf widthOf signedOf heldBy lengthOf within inMask takes accepts toBits fromBits check9 checkEntries exists misdirected unaccepted judge atLowest orderOf byteFrom tableLacksApp tableCopies tableHoldsBad tablePlan tableDoes tableCall tableMakes run hasBytes
 example-table = refl
 
 -- demand 3 of this module, bank and list: its premises are met

@@ -1,4 +1,4 @@
--- `admit` meets its contract: its tests are 9 and 8, and the load gives 1 to 7.
+-- `admit` meets its contract: its tests are 9 and 8, and the load checks the entries.
 use borrow.Author.Needs.{needs}
 use mathlib.Core.Path.{_≡_, sym, _∙_}
 use mathlib.Core.Bool.{true}

@@ -6,7 +6,7 @@ use native.Mathlib.Omega.{arith}
 use lib.ListN.{length}
 use denote.Ref.{now}
 use Rattle.rules.specs.Descriptor.{decodeAt}
-use Rattle.rules.specs.Load.{walkOf}
+use Rattle.rules.specs.Load.{walkWithin}
 use Rattle.rules.proofs.Load.Checks.{Passed, decode-passed}
 use Rattle.rules.proofs.Load.Folds.{done, out}
 use Rattle.descriptor.proofs.Scan.{Went, went, halts, Scanning, scan-begin, scan-turn}
@@ -27,7 +27,7 @@ gone : (c : tie.After-known-told Inv-loop μ-loop) →
 gone c = went _ _ _ _ _ (sym (c .before .before .before .decode .ensures) ∙ c .before .d .given .1)
 
 loop-holds : tie.Need-loop-holds Inv-loop μ-loop
-loop-holds c = scan-begin _ _ _ _ _ (c .before .pre .sum)
+loop-holds c = scan-begin _ _ _ _ _ (c .before .pre .numbers) (c .before .pre .sum)
 
 decode-requires : tie.Need-decode-requires Inv-loop μ-loop
 decode-requires c κs =
@@ -40,7 +40,7 @@ decode-requires c κs =
       mask-top = b .pre .mask-top;
       inside = c .loop-test .taken;
       short = b .pre .short;
-      number = omega (arith, l .loop .inv .folded .counts, b .pre .number, b .pre .short, c .loop-test .taken);
+      numbers = l .loop .inv .numbers;
       sum = l .loop .inv .sum;
     }
 
@@ -54,7 +54,7 @@ stopped-requires : tie.Need-stopped-requires Inv-loop μ-loop
 stopped-requires c κs = search needs
 
 returns : tie.Need-returns Inv-loop μ-loop
-unfolding walkOf
+unfolding walkWithin
 returns c =
     let t = c .before in
     let k = t .before .before in
@@ -78,7 +78,7 @@ loop-again c =
     scan-turn (t .before .loop .inv) (t .loop-test .taken) w
 
 returns-2 : tie.Need-returns-2 Inv-loop μ-loop
-unfolding walkOf
+unfolding walkWithin
 returns-2 c = done (c .before .loop .inv .folded) (c .loop-test .left)
 
 pub scan-spec : {M : Type 1} → statement M
