@@ -6,6 +6,7 @@
    Every number may have any value: what doesn't exist is refused. In an answer, `refusal` is 0 if the call is accepted,
    otherwise the documents' number (01 and 02); `at` is then the entry that 16 and 1 to 7 name, or the lane that 13
    and 14 name, else 0. All other members are 0 in a refused answer, but for the reader's position.
+   Strings are checked entry by entry, RW first; of one entry 16 comes before 1 to 7.
    Numbers of fields are unsigned, but those of 09h, 0Ah, 0Dh, 11h and 12h have a sign. Write takes of 09h, 0Ah and 0Dh a
    number from the entry's Min to its Max. Weight alone multiplies by a step, that of 12h.
    The library needs `memset` from the C library, nothing else. */

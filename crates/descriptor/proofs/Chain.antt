@@ -26,6 +26,11 @@ pub stop : (at : ℕ) (st : State) (n : ℕ) (d : Decoded) {b : Bool} → b ≡ 
 unfolding refuse
 stop at st n d e = rw e
 
+-- a check that no entry fails
+pub no-check : (at : ℕ) (st : State) (n : ℕ) (d : Decoded) {r : Decoding} → r ≡ decodingOf at st (refuse false n d) → r ≡ decodingOf at st d
+unfolding refuse
+no-check at st n d h = h
+
 -- an ID may stand in a string as the number of its side says
 stands : (x : Side) (ro : Bool) → standsBy (sideNumber x) ro ≡ mayStand x ro
 stands RW true = refl

@@ -12,16 +12,16 @@ use Rattle.rules.specs.declared.Decoded.{Decoded}
 use Rattle.rules.specs.declared.Decoded.the-variants.{Entry as decoded, Refused as failed}
 use Rattle.rules.specs.declared.Walked.the-variants.{Ended as ended, Refused as stopped}
 use Rattle.rules.specs.declared.Refusal.the-variants.{AtEntry as atEntry}
-use Rattle.rules.specs.Descriptor.{entryAt, decodeAt, limited}
+use Rattle.rules.specs.Descriptor.{entryAt, decodeAt, limited, entryLimit}
 use Rattle.rules.specs.Load.{next, foldBy, foldOf, onward, gather, entriesFrom, entriesWithin, walkWithin}
 use Rattle.rules.specs.MapProgram.{entryLines}
 use Rattle.rules.proofs.Load.Checks.{Passed, decode-passed}
 use Rattle.rules.proofs.Load.Folds.{Folded, begin, turn, done, out, more, done-by, turn-by}
 use Rattle.descriptor.specs.declared.decode.Decoding.the-variants.{Refused as stops}
-use Rattle.descriptor.specs.Decode.{decodingOf, Numbered}
+use Rattle.descriptor.specs.Decode.{decodingOf}
 use Rattle.descriptor.specs.Text.{Put, entryLine, Listing}
 use Rattle.descriptor.proofs.Puts.{put-then, put-most}
-use Rattle.descriptor.proofs.Scan.{numbered-next, Went}
+use Rattle.descriptor.proofs.Scan.{Went}
 
 abbrev rest : Bool → ℕ → ℕ → List ℕ → ℕ → State → List Entry
 rest ro a fuel s at st = foldBy limited gather (λ _. []) ro a fuel s at st
@@ -81,10 +81,10 @@ pub record Writing (ro : Bool) (a : ℕ) (s : List ℕ) (st₀ : State) (at : �
   pub folded : Folded onward ended ro a s 0 st₀ from st
   pub put : Put (4 * from) at text before place after
   pub inside : from ≤ length s
-  pub numbers : Numbered st
+  pub first : st .first ≤ entryLimit
   pub sum : st .sum ≤ 256
 
-pub writing-begin : (ro : Bool) (a : ℕ) (s : List ℕ) (st : State) (at : ℕ) (b : List ℕ) → Numbered st → st .sum ≤ 256 → Writing ro a s st at b 0 st at b
+pub writing-begin : (ro : Bool) (a : ℕ) (s : List ℕ) (st : State) (at : ℕ) (b : List ℕ) → st .first ≤ entryLimit → st .sum ≤ 256 → Writing ro a s st at b 0 st at b
 writing-begin ro a s st at b n h =
     record {
       text = [];
@@ -92,7 +92,7 @@ writing-begin ro a s st at b n h =
       folded = begin onward ended ro a s 0 st;
       put = record { next = omega arith; room = omega arith; bytes = refl };
       inside = omega arith;
-      numbers = n;
+      first = n;
       sum = h;
     }
 
@@ -139,6 +139,6 @@ module _ {ro : Bool} {a : ℕ} {s : List ℕ} {st₀ : State} {at : ℕ} {before
           folded = turn (w .folded) h e d (λ _. refl);
           put = rw (k .entry) (put-most (4 * (from + entryAt a s from (st .sum) .length)) (omega (arith, rw (k .entry) at (k .long))) (put-then (w .put) p));
           inside = omega (arith, k .within);
-          numbers = numbered-next e (w .numbers);
+          first = w .first;
           sum = k .sum;
         })

@@ -15,14 +15,15 @@ use Rattle.rules.specs.Load.{Map, loadOf, mapOf, readOf}
 use Rattle.rules.specs.Place.{entry, isRW}
 use Rattle.rules.specs.Refuse.{Verdict, passes, refuses}
 use Rattle.rules.specs.Beside.{entryVerdict, answered, entryAnswer, ownBytes, partOr, entryBytes}
-use Rattle.rules.specs.Demands.{Accepted}
+use Rattle.rules.specs.Demands.{Accepted, AtMost16, readBefore}
+use Rattle.rules.proofs.Demands.{note7}
 use Rattle.rules.proofs.Refusals.Orders.{order-refused, order-accepted}
 use Rattle.rules.proofs.Load.EntryHeads.{Head}
 use Rattle.rules.proofs.Load.EntryBytes.{entry-part, verdict-passes}
 use Rattle.descriptor.specs.declared.search.Mark.{Mark}
 use Rattle.descriptor.specs.declared.Located.{Located}
 use Rattle.descriptor.specs.declared.Located.the-variants.{At as at, Refused as nowhere}
-use Rattle.descriptor.specs.Locate.{located, locatedOf}
+use Rattle.descriptor.specs.Locate.{located, locatedOn, locatedOf}
 use Rattle.descriptor.specs.Marks.{markAfter, Passable}
 use Rattle.descriptor.proofs.Marks.{markOf, accepts, rw-count, all-count, passable, entry-stands, entry-heads}
 
@@ -140,3 +141,12 @@ module _ (count : ℕ) (first last : List ℕ) (e : ℕ) where
           let d : entry m e .length ≡ l = cc in
           rw (← a, ← b, ← d, flip (isRW m e)) (passes-span p)
       go (refuses r) p q = let z : _≡_ {A = ℕ} 0 1 = cc in absurd (omega arith)
+
+-- 02, note 7: where no walk comes to a 17th entry, an entry stands where it stands without the limit
+pub located-as-before :
+    (count : ℕ) (rw ro : List ℕ)
+    → AtMost16 count rw ro
+    → (e : ℕ)
+    → locatedOf count rw ro e ≡ locatedOn (readBefore count rw ro) e
+unfolding locatedOf
+located-as-before count first last few e = ap (λ r. locatedOn r e) (note7 count first last few .reading)

@@ -11,13 +11,13 @@ use Rattle.rules.specs.declared.Decoded.{Decoded}
 use Rattle.rules.specs.declared.Decoded.the-variants.{Entry as decoded, Refused as failed}
 use Rattle.rules.specs.declared.Walked.{Walked}
 use Rattle.rules.specs.declared.Walked.the-variants.{Ended as ended}
-use Rattle.rules.specs.Descriptor.{decodeAt}
+use Rattle.rules.specs.Descriptor.{decodeAt, entryLimit}
 use Rattle.rules.specs.Load.{next, onward}
 use Rattle.rules.proofs.Load.Checks.{decode-passed}
 use Rattle.rules.proofs.Load.Folds.{Folded, begin, turn}
 use Rattle.descriptor.specs.declared.decode.Decoding.{Decoding}
 use Rattle.descriptor.specs.declared.decode.Decoding.the-variants.{Past as past, Refused as stops}
-use Rattle.descriptor.specs.Decode.{decodingOf, Numbered}
+use Rattle.descriptor.specs.Decode.{decodingOf}
 use Rattle.descriptor.specs.Walks.{stoppedOf}
 
 -- what going past an entry says of its decode
@@ -40,17 +40,13 @@ pub halts :
 halts at st (decoded e) x n r p q = let o : _≡_ {A = ℕ} 0 1 = cc in absurd (omega arith)
 halts at st (failed k) x n r p q = rw p refl
 
--- past an entry, the string's first entry stays
-pub numbered-next : {st : State} (e : Entry) → Numbered st → Numbered (next st e)
-numbered-next e n = record { begun = omega (arith, n .begun); first = n .first }
-
 pub record Scanning (ro : Bool) (a : ℕ) (s : List ℕ) (at₀ : ℕ) (st₀ : State) (at : ℕ) (st : State) : Type 0 where
   pub folded : Folded onward ended ro a s at₀ st₀ at st
-  pub numbers : Numbered st
+  pub first : st .first ≤ entryLimit
   pub sum : st .sum ≤ 256
 
-pub scan-begin : (ro : Bool) (a : ℕ) (s : List ℕ) (at : ℕ) (st : State) → Numbered st → st .sum ≤ 256 → Scanning ro a s at st at st
-scan-begin ro a s at st n h = record { folded = begin onward ended ro a s at st; numbers = n; sum = h }
+pub scan-begin : (ro : Bool) (a : ℕ) (s : List ℕ) (at : ℕ) (st : State) → st .first ≤ entryLimit → st .sum ≤ 256 → Scanning ro a s at st at st
+scan-begin ro a s at st n h = record { folded = begin onward ended ro a s at st; first = n; sum = h }
 
 pub scan-turn :
     {ro : Bool} {a : ℕ} {s : List ℕ} {at₀ : ℕ} {st₀ : State} {at : ℕ} {st : State}
@@ -61,4 +57,4 @@ pub scan-turn :
     → Scanning ro a s at₀ st₀ place after
 scan-turn {ro} {a} {s} {at₀} {st₀} {at} {st} k h w =
     rw (w .to, w .keeps)
-    (record { folded = turn (k .folded) h (w .e) (w .decodes) (λ _. refl); numbers = numbered-next (w .e) (k .numbers); sum = decode-passed ro a s at st (w .e) (w .decodes) .sum })
+    (record { folded = turn (k .folded) h (w .e) (w .decodes) (λ _. refl); first = k .first; sum = decode-passed ro a s at st (w .e) (w .decodes) .sum })

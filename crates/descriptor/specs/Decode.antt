@@ -38,11 +38,6 @@ standsBy side false = eqb (side % 2) 1
 abbrev pub lateBy : ℕ → Bool → Bool → Bool
 lateBy id media passed = leb 2 id && (leb id 8 && (not media && passed))
 
--- the number of a string's first entry, in a walk of it
-pub record Numbered (st : State) : Type 0 where
-  pub begun : st .first ≤ st .number
-  pub first : st .first ≤ entryLimit
-
 -- a place of a string at which an entry is decoded
 pub record Walking (table : List ℕ) (rowTable : List (List ℕ)) (a : ℕ) (s : List ℕ) (at : ℕ) (st : State) : Type 0 where
   pub classes-is : table ≡ classes
@@ -51,7 +46,7 @@ pub record Walking (table : List ℕ) (rowTable : List (List ℕ)) (a : ℕ) (s 
   pub mask-top : a ≤ 2
   pub inside : at < length s
   pub short : length s ≤ 120
-  pub numbers : Numbered st
+  pub first : st .first ≤ entryLimit
   pub sum : st .sum ≤ 256
 
 -- the same past 16, 1 and 2, with the row of the entry's ID

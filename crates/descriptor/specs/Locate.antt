@@ -2,7 +2,7 @@
 use mathlib.Core.Bool.{not}
 use mathlib.Core.List.{List}
 use Prim.Native.Nat.{ℕ}
-use Rattle.rules.specs.Load.{mapOf, readOf}
+use Rattle.rules.specs.Load.{Reading, readOf}
 use Rattle.rules.specs.Place.{entry, isRW}
 use Rattle.rules.specs.Refuse.{Verdict, passes, refuses}
 use Rattle.rules.specs.Beside.{entryVerdict}
@@ -13,12 +13,11 @@ abbrev pub located : Verdict → Located → Located
 located passes x = x
 located (refuses r) x = nowhere r
 
-unfoldable pub locatedOf : ℕ → List ℕ → List ℕ → ℕ → Located
-locatedOf count rw ro e =
+abbrev pub locatedOn : Reading → ℕ → Located
+locatedOn r e =
     located
-    (entryVerdict (readOf count rw ro) e)
-    (at
-    (not (isRW (mapOf count rw ro) e))
-    (entry (mapOf count rw ro) e .start)
-    (entry (mapOf count rw ro) e .length)
-    (entry (mapOf count rw ro) e .offset))
+    (entryVerdict r e)
+    (at (not (isRW (r .map) e)) (entry (r .map) e .start) (entry (r .map) e .length) (entry (r .map) e .offset))
+
+unfoldable pub locatedOf : ℕ → List ℕ → List ℕ → ℕ → Located
+locatedOf count rw ro e = locatedOn (readOf count rw ro) e

@@ -7,10 +7,10 @@ use Rattle.rules.specs.declared.State.{State}
 use Rattle.rules.specs.declared.Refusal.the-variants.{AtEntry as atEntry}
 use Rattle.rules.specs.declared.Walked.{Walked}
 use Rattle.rules.specs.declared.Walked.the-variants.{Refused as stopped}
+use Rattle.rules.specs.Descriptor.{entryLimit}
 use Rattle.descriptor.specs.declared.decode.Decoding.{Decoding}
 use Rattle.descriptor.specs.declared.decode.Decoding.the-variants.{Past as past, Refused as stops}
 use Rattle.descriptor.specs.Rows.{classes, rows}
-use Rattle.descriptor.specs.Decode.{Numbered}
 
 -- a refusal with its entry's number
 abbrev pub stoppedOf : Decoding → ℕ → Walked
@@ -24,5 +24,5 @@ pub record Ready (table : List ℕ) (rowTable : List (List ℕ)) (a : ℕ) (s : 
   pub mask-low : 1 ≤ a
   pub mask-top : a ≤ 2
   pub short : length s ≤ 120
-  pub numbers : Numbered st
+  pub first : st .first ≤ entryLimit
   pub sum : st .sum ≤ 256

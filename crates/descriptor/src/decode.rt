@@ -1,9 +1,9 @@
 // One entry of a walk: its checks, 16 and 1 to 7, once for every walk.
 ghost use mathlib.Core.Path.{_≡_};
-ghost use Prim.Native.Nat.{_<_, _+_, _-_, _*_};
+ghost use Prim.Native.Nat.{_<_, _+_, _*_};
 ghost use lib.ListN.{length};
 ghost use lib.Dec.{ltb};
-ghost use Rattle.rules.specs.Descriptor.{byteAt, mediaSide, entryAt, lengthChecks, contentChecks, entryLimit, decodeAt};
+ghost use Rattle.rules.specs.Descriptor.{byteAt, mediaSide, entryAt, contentChecks, entryLimit, unlimited, decodeWithin, decodeAt};
 ghost use Rattle.descriptor.specs.Decode.{decodingOf, StepIn, reservedBy, standsBy, lateBy, Walking, Standing};
 use crate::rows::class_of;
 use crate::state::next;
@@ -99,7 +99,7 @@ fn content(row: [u8; 4], in_ro: bool, a: usize, s: &[u8], at: usize, st: State) 
     Decoding::Past(at + (s[at + 1] as usize), next(st, memory, media))
 }
 
-// 1 and 2, then 3 to 7, for the entry at a place.
+// The entry at a place, whatever stands before it: 1 and 2, then 3 to 7.
 fn checked(
     classes: &[u8; 19],
     rows: &[[u8; 4]; 11],
@@ -111,7 +111,7 @@ fn checked(
 ) -> Decoding
     requires { ⌜ Walking (now classes) (now rows) a (now s) at st ⌝ }
     requires { ⌜ st .number < 2 * entryLimit ⌝ }
-    ensures { λ r. ⌜ r ≡ decodingOf at st (lengthChecks a (length (now (s .entry)) - at) (entryAt a (now (s .entry)) at (st .sum)) (contentChecks in_ro st (entryAt a (now (s .entry)) at (st .sum)))) ⌝ }
+    ensures { λ r. ⌜ r ≡ decodingOf at st (decodeWithin unlimited in_ro a (now (s .entry)) at st) ⌝ }
 {
     if at + 1 == s.len() {
         return Decoding::Refused(1);
@@ -140,7 +140,7 @@ pub fn decode(
     requires { ⌜ Walking (now classes) (now rows) a (now s) at st ⌝ }
     ensures { λ r. ⌜ r ≡ decodingOf at st (decodeAt in_ro a (now (s .entry)) at st) ⌝ }
 {
-    if ENTRY_LIMIT <= st.number - st.first {
+    if st.first + ENTRY_LIMIT <= st.number {
         return Decoding::Refused(16);
     }
     checked(classes, rows, in_ro, a, s, at, st)

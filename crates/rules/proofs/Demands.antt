@@ -22,7 +22,7 @@ demand3 = lists-agree
 pub demand3-after-fresh : Demand3-after-fresh
 demand3-after-fresh = lists-agree-after-fresh
 
--- strings of at most 16 entries each are read as before note 7, and every call on them is what it was
+-- strings of at most 16 entries each are read, and every call on them made, as without the limit of note 7
 pub note7 : Note7
 note7 = as-before
 

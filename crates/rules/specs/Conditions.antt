@@ -47,7 +47,7 @@ entryRules ro a s at st =
     let id : ℕ = byteAt s at in
     let size : ℕ = byteAt s (at + 1) in
     let memory : ℕ = byteAt s (at + 2 + a) in
-    gives 16 (16 ≤ st .number - st .first)
+    gives 16 (st .first + 16 ≤ st .number)
     ∷ gives 1 ((left ≡ 1) ⊎ (left < size))
     ∷ gives 2 (BelowLeast a id size)
     ∷ gives 3 (WrongString ro id)

@@ -10,7 +10,7 @@ use lib.Dec.{T, eqb}
 use Rattle.rules.specs.Words.{Refusal, plain, atEntry, Entry, decoded, failed, State, ended, accepted, rejected, Call, read, Answer, refused, placedAt, notPlaced, ownedBy, noOwner, notOwned, noMore, notTaken}
 use Rattle.rules.specs.Numbers.{cut}
 use Rattle.rules.specs.Descriptor.{maskBytes, hasApp, byteAt, entryAt, unlimited, decodeAt}
-use Rattle.rules.specs.Load.{start, intoRO, Turn, Map, Reading, foldOf, walkWithin, readWithin, loadOn, loadOf, rwEntries, roEntries, total, mapOf}
+use Rattle.rules.specs.Load.{start, intoRO, Turn, Map, Reading, foldOf, walkWithin, readWithin, readOf, loadOn, loadOf, rwEntries, roEntries, total, mapOf}
 use Rattle.rules.specs.Place.{nothing, entry, partsOf, widthOf, signedOf, isRW, lengthOf, holds, fieldByte, fieldBit, covers}
 use Rattle.rules.specs.Accept.{accepts, toBits, fromBits, weightOf}
 use Rattle.rules.specs.Layout.{bankSize, HasBytes, setStart}
@@ -18,7 +18,7 @@ use Rattle.rules.specs.Bank.{Bank, numberIn, appSelIn, bankCallOn, bankC
 use Rattle.rules.specs.Table.{Table, freshTable, tableCallOn, tableCall, tableMakes}
 use Rattle.rules.specs.Machine.{Command, run}
 use Rattle.rules.specs.Beside.{placeOn, placeOf, ownerOn, ownerCall, entryAnswerOn, entryAnswer, entryBytesOn, entryBytes, weightOn, weightCall}
-use Rattle.rules.specs.MapProgram.{rwBytes, roBytes, outputBy, mapOutput}
+use Rattle.rules.specs.MapProgram.{rwBytes, roBytes, outputOn, mapOutput}
 use Rattle.rules.specs.Reader.{takeOf}
 use Rattle.rules.specs.Columns.{Accepts, Shaped, TwosComplement, ExtrasRead}
 use Rattle.rules.specs.Conditions.{gives, First, entryRules, Way, PastMedia, entriesPast, Lane, planRules, callRules, stringRules, bankRules, ReaderSized, readerRules}
@@ -38,9 +38,10 @@ pub record Refusals (count : ℕ) (rw ro : List ℕ) (b : Bank) : Type 0 where
       → (decodeAt inRO a s at st ≡ failed n) ↔ First (entryRules inRO a s at st) n
   -- "after a media-side table entry of the RW string": what the state of a walk says is what the bytes that it went past say
   pub media : (a : ℕ) (s : List ℕ) (at : ℕ) (st : State) (w : Way false a s at st 0 start) → (st .media ≡ true) ↔ PastMedia w
-  -- "a 17th entry", of either string by itself, and "its entry number": the state of a walk counts the entries that it went past
+  -- "a 17th entry", of either string by itself (the RW string is begun at `start`, which is `intoRO start`), and "its entry number": the
+  -- state of a walk counts the entries that it went past, of which there are at most 16
   pub numbers : (inRO : Bool) (a : ℕ) (s : List ℕ) (at : ℕ) (st before : State) (w : Way inRO a s at st 0 (intoRO before))
-      → (st .number - st .first ≡ entriesPast w) × (st .number ≡ before .number + entriesPast w)
+      → (st .first ≡ before .number) × (st .number ≡ before .number + entriesPast w) × (entriesPast w ≤ 16)
   -- the calls of demand 3, fresh, and the calls beside: a refusal is answered exactly if it is the first in 01's order
   pub call : (c : Call) (x : Refusal)
       → (bankCall count rw ro c b .0 ≡ refused x) ↔ First (bankRules count rw ro b (callRules (mapOf count rw ro) c ++ planRules (mapOf count rw ro) c b)) x
@@ -231,12 +232,13 @@ pub record AtMost16 (count : ℕ) (rw ro : List ℕ) : Type 0 where
       → walkWithin unlimited false (maskBytes count) rw 0 start ≡ ended middle
       → comesTo true (maskBytes count) ro (intoRO middle) ≤ 16
 
--- what was read of the strings before there was a limit
+-- what is read of the strings without a limit
 abbrev pub readBefore : ℕ → List ℕ → List ℕ → Reading
 readBefore = readWithin unlimited
 
--- load, map and every call, its answer and the bank after it
+-- what is read, and so load, map and every call, its answer and the bank after it
 pub record AsBefore (count : ℕ) (rw ro : List ℕ) : Type 0 where
+  pub reading : readOf count rw ro ≡ readBefore count rw ro
   pub load : loadOf count rw ro ≡ loadOn (readBefore count rw ro)
   pub map : mapOf count rw ro ≡ readBefore count rw ro .map
   pub call : (c : Call) (b : Bank) → bankCall count rw ro c b ≡ bankCallOn (readBefore count rw ro) c b
@@ -251,7 +253,7 @@ pub record AsBefore (count : ℕ) (rw ro : List ℕ) : Type 0 where
       → byteAt input 0 ≡ count
       → rwBytes input ≡ rw
       → roBytes input ≡ ro
-      → mapOutput input ≡ outputBy readBefore input
+      → mapOutput input ≡ outputOn (readBefore count rw ro) input
 
 abbrev pub Note7 : Type 0
 Note7 = (count : ℕ) (rw ro : List ℕ) → AtMost16 count rw ro → AsBefore count rw ro

@@ -136,7 +136,7 @@ contentChecks ro st e =
     (refuse (ltb 256 (st .sum + e .memory)) 7
     (decoded e)))))
 
--- how many entries a string may have: any number, as 01 has it, or up to one
+-- how many entries a string may have: any number, as 01 has it, or at most a given one
 pub data Limit : Type 0 where
   unlimited : Limit
   upTo : ℕ → Limit
@@ -151,7 +151,7 @@ limited = upTo entryLimit
 -- 16: "a 17th entry", before which as many as the limit stand in its string
 abbrev pub full : Limit → State → Bool
 full unlimited st = false
-full (upTo n) st = leb n (st .number - st .first)
+full (upTo n) st = leb (st .first + n) (st .number)
 
 -- one entry: what stands at a place of a string, for a walk that keeps a state; 16 is "given before the other checks of that entry"
 unfoldable pub decodeWithin : Limit → Bool → ℕ → List ℕ → ℕ → State → Decoded

@@ -49,7 +49,7 @@ total (e ∷ l) = e .memory + total l
 abbrev pub sized : ℕ → List ℕ → List ℕ → Bool
 sized count rw ro = leb 1 count && (leb count 15 && (leb (length rw) 120 && leb (length ro) 120))
 
--- what the calls use of the entries: how many of them are RW, and the lengths
+-- the map: the count, the entries, how many of them are RW, and the lengths
 pub record Map : Type 0 where
   pub count : ℕ
   pub entries : List Entry

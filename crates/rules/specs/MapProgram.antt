@@ -62,10 +62,8 @@ mapText (accepted rwCount roCount staged active) entries = heading ++ (entryLine
 mapText (rejected r) entries = refusedLine r
 
 -- "Input that is short or long prints `refused 9`; another refusal prints its number so."
-abbrev pub outputBy : (ℕ → List ℕ → List ℕ → Reading) → List ℕ → List ℕ
-outputBy read input =
-    let r : Reading = read (byteAt input 0) (rwBytes input) (roBytes input) in
-    cond (isWhole input) (mapText (loadOn r) (r .map .entries)) (refusedLine (plain 9))
+abbrev pub outputOn : Reading → List ℕ → List ℕ
+outputOn r input = cond (isWhole input) (mapText (loadOn r) (r .map .entries)) (refusedLine (plain 9))
 
 unfoldable pub mapOutput : List ℕ → List ℕ
-mapOutput input = outputBy readOf input
+mapOutput input = outputOn (readOf (byteAt input 0) (rwBytes input) (roBytes input)) input

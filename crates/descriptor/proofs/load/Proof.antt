@@ -88,7 +88,7 @@ scan-requires c κs =
       mask-low = k .mask-bytes .ensures .1;
       mask-top = k .mask-bytes .ensures .2;
       short = z .first;
-      numbers = record { begun = omega arith; first = omega arith };
+      first = omega arith;
       sum = omega arith;
     })
 
@@ -123,7 +123,7 @@ scan-requires-2 c κs =
       mask-low = k .mask-bytes .ensures .1;
       mask-top = k .mask-bytes .ensures .2;
       short = sizes (k .before) .last;
-      numbers = record { begun = omega arith; first = ended-at u .number };
+      first = ended-at u .number;
       sum = ended-at u .sum;
     })
 

@@ -30,7 +30,7 @@ passed false n d e h = (refl, h)
 -- an entry that passes its checks at a place of a string and a state
 pub record Passed (ro : Bool) (a : ℕ) (s : List ℕ) (at : ℕ) (st : State) (e : Entry) : Type 0 where
   pub entry : e ≡ entryAt a s at (st .sum)
-  pub few : st .number - st .first < entryLimit
+  pub few : st .number < st .first + entryLimit
   pub within : e .length ≤ length s - at
   pub long : 3 + a ≤ e .length
   pub side : mayStand (rowOf (e .id) .side) ro ≡ true

@@ -8,21 +8,21 @@ use native.Mathlib.Omega.{arith}
 use lib.ListN.{length}
 use lib.Dec.{ltb}
 use borrow.Author.Tests.{lt-leb}
-use Rattle.rules.specs.Words.{plain, Entry, Decoded, decoded, failed, State, Walked, ended, stopped, accepted}
-use Rattle.rules.specs.Descriptor.{maskBytes, unlimited, upTo, decodeWithin}
+use Rattle.rules.specs.Words.{Entry, Decoded, decoded, failed, State, Walked, ended, stopped, accepted}
+use Rattle.rules.specs.Descriptor.{maskBytes, unlimited, upTo, limited, entryLimit, decodeWithin}
 use Rattle.rules.specs.Load.{start, next, intoRO, Turn, onward, gather, after, onEnd, foldBy, foldOf, walkWithin, entriesWithin, stringsWithin, rwWithin, roWithin, bothWithin, mapWithin, Reading, readOf, loadOn, loadOf}
 use Rattle.rules.specs.Bank.{bankCallOn, bankCall, freshOn, freshCall}
 use Rattle.rules.specs.Table.{tableCallOn, tableCall}
 use Rattle.rules.specs.Beside.{placeOn, placeOf, ownerOn, ownerCall, entryAnswerOn, entryAnswer, entryBytesOn, entryBytes, weightOn, weightCall}
-use Rattle.rules.specs.MapProgram.{mapText, isWhole, refusedLine, mapOutput}
+use Rattle.rules.specs.MapProgram.{outputOn, mapOutput}
 use Rattle.rules.specs.Demands.{tally, AtMost16, AsBefore, readBefore}
 
 -- an entry before which fewer than n stand
 decode-same : (n : ℕ) (ro : Bool) (a : ℕ) (s : List ℕ) (at : ℕ) (st : State)
-    → st .number - st .first < n
+    → st .number < st .first + n
     → decodeWithin (upTo n) ro a s at st ≡ decodeWithin unlimited ro a s at st
 unfolding decodeWithin
-decode-same n ro a s at st h = rw (lt-leb n (st .number - st .first) h)
+decode-same n ro a s at st h = rw (lt-leb (st .first + n) (st .number) h)
 
 -- a walk that makes of an entry what it makes of the rest behind it
 module _ {A : Type 0} (on : Turn A) (end : State → A)
@@ -30,12 +30,11 @@ module _ {A : Type 0} (on : Turn A) (end : State → A)
     (fails : (n : ℕ) (st : State) (k k′ : Entry → A) → on (failed n) st k ≡ on (failed n) st k′)
     (n : ℕ) (ro : Bool) (a : ℕ) (s : List ℕ) where
   fold-same : (f at : ℕ) (st : State)
-      → st .first ≤ st .number
-      → st .number - st .first + foldBy unlimited tally (λ _. 0) ro a f s at st ≤ n
+      → st .number + foldBy unlimited tally (λ _. 0) ro a f s at st ≤ st .first + n
       → foldBy (upTo n) on end ro a f s at st ≡ foldBy unlimited on end ro a f s at st
   unfolding foldBy
-  fold-same zero at st g h = refl
-  fold-same (suc f) at st g h = go (ltb at (length s)) (decodeWithin unlimited ro a s at st) refl (λ e. fold-same f (at + e .length) (next st e) (omega arith)) h
+  fold-same zero at st h = refl
+  fold-same (suc f) at st h = go (ltb at (length s)) (decodeWithin unlimited ro a s at st) refl (λ e. fold-same f (at + e .length) (next st e)) h
     where
       rest : Entry → A
       rest e = foldBy unlimited on end ro a f s (at + e .length) (next st e)
@@ -48,8 +47,8 @@ module _ {A : Type 0} (on : Turn A) (end : State → A)
 
       go : (b : Bool) (d : Decoded)
           → decodeWithin unlimited ro a s at st ≡ d
-          → ((e : Entry) → next st e .number - st .first + met e ≤ n → within e ≡ rest e)
-          → st .number - st .first + cond b (tally d st met) 0 ≤ n
+          → ((e : Entry) → st .number + 1 + met e ≤ st .first + n → within e ≡ rest e)
+          → st .number + cond b (tally d st met) 0 ≤ st .first + n
           → cond b (on (decodeWithin (upTo n) ro a s at st) st within) (end st) ≡ cond b (on d st rest) (end st)
       go false d q ih h = refl
       go true (failed k) q ih h = rw (decode-same n ro a s at st (omega arith), q) (fails k st within rest)
@@ -61,46 +60,46 @@ module _ (n : ℕ) (ro : Bool) (a : ℕ) (s : List ℕ) (begin : State) (h : fol
   walk-same : walkWithin (upTo n) ro a s 0 (intoRO begin) ≡ walkWithin unlimited ro a s 0 (intoRO begin)
   unfolding walkWithin foldOf
   walk-same =
-      fold-same onward ended (λ e st k k′ q. q) (λ m st k k′. refl) n ro a s (length s) 0 (intoRO begin) (omega arith) (omega arith)
+      fold-same onward ended (λ e st k k′ q. q) (λ m st k k′. refl) n ro a s (length s) 0 (intoRO begin) (omega arith)
 
   entries-same : entriesWithin (upTo n) ro a s 0 (intoRO begin) ≡ entriesWithin unlimited ro a s 0 (intoRO begin)
   unfolding entriesWithin foldOf
   entries-same =
-      fold-same gather (λ _. []) (λ e st k k′ q. ap (λ l. e ∷ l) q) (λ m st k k′. refl) n ro a s (length s) 0 (intoRO begin) (omega arith) (omega arith)
+      fold-same gather (λ _. []) (λ e st k k′ q. ap (λ l. e ∷ l) q) (λ m st k k′. refl) n ro a s (length s) 0 (intoRO begin) (omega arith)
 
 module _ (count : ℕ) (first last : List ℕ) (few : AtMost16 count first last) where
   abbrev a : ℕ
   a = maskBytes count
 
-  rw-walk : walkWithin (upTo 16) false a first 0 start ≡ walkWithin unlimited false a first 0 start
-  rw-walk = walk-same 16 false a first start (few .in-rw)
+  rw-walk : walkWithin limited false a first 0 start ≡ walkWithin unlimited false a first 0 start
+  rw-walk = walk-same entryLimit false a first start (few .in-rw)
 
-  strings-same : stringsWithin (upTo 16) count first last ≡ stringsWithin unlimited count first last
+  strings-same : stringsWithin limited count first last ≡ stringsWithin unlimited count first last
   unfolding stringsWithin
   strings-same = rw rw-walk (go (walkWithin unlimited false a first 0 start) refl)
     where
       go : (w : Walked)
           → walkWithin unlimited false a first 0 start ≡ w
-          → after w (λ m. after (walkWithin (upTo 16) true a last 0 (intoRO m)) (λ e. accepted (m .number) (e .number - m .number) (m .sum) (e .sum)))
+          → after w (λ m. after (walkWithin limited true a last 0 (intoRO m)) (λ e. accepted (m .number) (e .number - m .number) (m .sum) (e .sum)))
           ≡ after w (λ m. after (walkWithin unlimited true a last 0 (intoRO m)) (λ e. accepted (m .number) (e .number - m .number) (m .sum) (e .sum)))
       go (stopped r) q = refl
-      go (ended m) q = rw (walk-same 16 true a last m (few .in-ro m q))
+      go (ended m) q = rw (walk-same entryLimit true a last m (few .in-ro m q))
 
-  rw-same : rwWithin (upTo 16) count first ≡ rwWithin unlimited count first
+  rw-same : rwWithin limited count first ≡ rwWithin unlimited count first
   unfolding rwWithin
-  rw-same = entries-same 16 false a first start (few .in-rw)
+  rw-same = entries-same entryLimit false a first start (few .in-rw)
 
-  ro-same : roWithin (upTo 16) count first last ≡ roWithin unlimited count first last
+  ro-same : roWithin limited count first last ≡ roWithin unlimited count first last
   unfolding roWithin
   ro-same = rw rw-walk (go (walkWithin unlimited false a first 0 start) refl)
     where
       go : (w : Walked)
           → walkWithin unlimited false a first 0 start ≡ w
-          → onEnd w (λ m. entriesWithin (upTo 16) true a last 0 (intoRO m)) ≡ onEnd w (λ m. entriesWithin unlimited true a last 0 (intoRO m))
+          → onEnd w (λ m. entriesWithin limited true a last 0 (intoRO m)) ≡ onEnd w (λ m. entriesWithin unlimited true a last 0 (intoRO m))
       go (stopped r) q = refl
-      go (ended m) q = entries-same 16 true a last m (few .in-ro m q)
+      go (ended m) q = entries-same entryLimit true a last m (few .in-ro m q)
 
-  map-same : mapWithin (upTo 16) count first last ≡ mapWithin unlimited count first last
+  map-same : mapWithin limited count first last ≡ mapWithin unlimited count first last
   unfolding mapWithin bothWithin
   map-same = rw (rw-same, ro-same)
 
@@ -113,6 +112,7 @@ unfolding loadOf bankCall freshCall tableCall placeOf ownerCall entryAnswer entr
 as-before count first last few =
     let same = read-same count first last few in
     record {
+      reading = same;
       load = ap loadOn same;
       map = ap (λ (r : Reading). r .map) same;
       call = λ c b. ap (λ r. bankCallOn r c b) same;
@@ -123,5 +123,5 @@ as-before count first last few =
       own-entry = λ e. ap (λ r. entryAnswerOn r e) same;
       own-part = λ e. ap (λ r. entryBytesOn r first last e) same;
       weight = λ b e i. ap (λ r. weightOn r b e i) same;
-      program = λ input x y z. rw (x, y, z) (ap (λ (r : Reading). cond (isWhole input) (mapText (loadOn r) (r .map .entries)) (refusedLine (plain 9))) same);
+      program = λ input x y z. rw (x, y, z) (ap (λ r. outputOn r input) same);
     }

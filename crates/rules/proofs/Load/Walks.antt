@@ -84,10 +84,10 @@ few-by ro a (suc f) s at st h = go (ltb at (length s)) (decodeAt ro a s at st) r
     go false d q ih = omega arith
     go true (failed n) q ih = omega arith
     go true (decoded e) q ih =
-        let l : st .number - st .first < entryLimit = decode-passed ro a s at st e q .few in
+        let l : st .number < st .first + entryLimit = decode-passed ro a s at st e q .few in
         omega (arith, ih e (omega arith))
 
--- a walk of a whole string: how far its entry numbers and its sum come
+-- a walk that ends: how far its entry numbers and its sum come
 pub walk-counts :
     (ro : Bool) (a : ℕ) (s : List ℕ) (at : ℕ) (begin end : State)
     → begin .sum ≤ 256

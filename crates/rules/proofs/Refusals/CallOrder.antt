@@ -1,4 +1,4 @@
--- The laws of `bankCall` that a function's proof cites, one for each way out, in the order 9, 8, the entries', 10, 11, 12, then what is left.
+-- The laws of `bankCall` that a function's proof cites, one for each way out, in the order 9, 8, the checks of the entries, 10, 11, 12, then what is left.
 use mathlib.Core.Path.{_≡_, refl, sym, ap, _∙_}
 use mathlib.Core.Bool.{true, false}
 use mathlib.Core.List.{List, _++_}

@@ -79,7 +79,7 @@ module _ (a : ℕ) (s : List ℕ) (at : ℕ) (st : State) where
   entry-fails ro =
       let e : Entry = entryAt a s at (st .sum) in
       let left : ℕ = length s - at in
-      before _ 16 (le-says 16 (st .number - st .first))
+      before _ 16 (le-says (st .first + 16) (st .number))
       (before _ 1 (or-says (eqb left 1) (ltb left (e .length)) (eq-says left 1) (lt-says left (e .length)))
       (before _ 2 (least-says (e .id) a (e .length))
       (before _ 3 (side-says ro (e .id))

@@ -1,15 +1,16 @@
--- A small module on which both machines are run by computing. It also shows that the premises of demand 3 can be met.
-use mathlib.Core.Path.{_≡_, refl}
+-- A small module on which both machines are run by computing. It also shows that the premises of demand 3 and of note 7 can be met.
+use mathlib.Core.Path.{_≡_, refl, sym, _∙_}
 use mathlib.Core.List.{List, [], _∷_, map}
+use mathlib.Core.Bool.{true, false}
 use Prim.Native.Nat.{ℕ, _+_}
 use native.Mathlib.Omega.{arith}
 use lib.IntN.{pos, negsuc}
 use lib.ListN.{replicate, length-replicate}
-use Rattle.rules.specs.Words.{plain, atLane, Call, select, write, read, byteWrite, byteRead, publish, apply, Answer, saysYes, number, refused}
+use Rattle.rules.specs.Words.{plain, atLane, State, ended, Call, select, write, read, byteWrite, byteRead, publish, apply, Answer, saysYes, number, refused}
 use Rattle.rules.specs.Numbers.{sum, any, lowest}
 use Rattle.rules.specs.Parameter.{rowOf}
-use Rattle.rules.specs.Descriptor.{maskBytes, highFirst, codesOf, byteOf, refuse, lengthChecks, contentChecks, decodeWithin}
-use Rattle.rules.specs.Load.{foldBy, foldOf, loadOf, total, bothWithin, entriesWithin, mapWithin, roWithin, rwWithin, stringsWithin, walkWithin}
+use Rattle.rules.specs.Descriptor.{maskBytes, highFirst, codesOf, byteOf, refuse, lengthChecks, contentChecks, unlimited, decodeWithin}
+use Rattle.rules.specs.Load.{start, intoRO, foldBy, foldOf, loadOf, total, bothWithin, entriesWithin, mapWithin, roWithin, rwWithin, stringsWithin, walkWithin}
 use Rattle.rules.specs.Place.{partsOf, widthOf, signedOf, heldBy, lengthOf, firstOwner, ownerOf}
 use Rattle.rules.specs.Accept.{within, inMask, takes, accepts, toBits, fromBits}
 use Rattle.rules.specs.Refuse.{check9, check8, checkEntries, exists, misdirected, unaccepted, judge, atLowest, bankOrder, orderOf}
@@ -17,8 +18,9 @@ use Rattle.rules.specs.Layout.{bankSize, hasBytes, setStart, appSelStart
 use Rattle.rules.specs.Bank.{Bank, getField, putField, numberIn, withNumber, fieldBits, bankLacksApp, bankCopies, bankHoldsBad, bankPlan, loop, copyField, applyBank, bankDoes, bankCall, freshBank, freshCall, bankMakes}
 use Rattle.rules.specs.Table.{byteFrom, tableLacksApp, tableCopies, tableHoldsBad, tablePlan, tableDoes, tableCall, tableMakes}
 use Rattle.rules.specs.Machine.{call, run}
-use Rattle.rules.specs.Demands.{Accepted, bankRun, tableRun, ListAgrees}
+use Rattle.rules.specs.Demands.{Accepted, bankRun, tableRun, ListAgrees, comesTo, AtMost16, AsBefore}
 use Rattle.rules.proofs.Lists.Lists.{lists-agree}
+use Rattle.rules.proofs.Load.Limits.{as-before}
 
 -- 02h at 0 for AppSel 1 and 2; opaque 13h at 1 and 2, with a last byte that is not read as flags; 04h at 3 with codes 0 to 3
 -- for AppSel 1, and a byte of surplus at 7; 0Dh at 8 for AppSel 2, index −1, Max 0, Min −30, step 0
@@ -128,3 +130,33 @@ example-table = refl
 -- demand 3 of this module, bank and list: its premises are met
 pub example-agrees : ListAgrees 2 rwString roString bank (map call calls)
 example-agrees = lists-agree 2 rwString roString bank example-accepted (rw (length-replicate {A = ℕ} (bankSize + 1) 0xA5) (omega arith)) (map call calls)
+
+-- walks without a limit come to 4 RW entries, and then to 1 RO entry
+abbrev middle : State
+middle = record { number = 4; first = 0; sum = 16; media = false }
+
+rw-ends : walkWithin unlimited false (maskBytes 2) rwString 0 start ≡ ended middle
+unfolding rowOf maskBytes highFirst codesOf byteOf refuse lengthChecks contentChecks decodeWithin foldBy foldOf walkWithin
+rw-ends = refl
+
+rw-comes : comesTo false (maskBytes 2) rwString start ≡ 4
+unfolding rowOf maskBytes highFirst codesOf byteOf refuse lengthChecks contentChecks decodeWithin foldBy foldOf
+rw-comes = refl
+
+ro-comes : comesTo true (maskBytes 2) roString (intoRO middle) ≡ 1
+unfolding rowOf maskBytes highFirst codesOf byteOf refuse lengthChecks contentChecks decodeWithin foldBy foldOf
+ro-comes = refl
+
+example-few : AtMost16 2 rwString roString
+example-few =
+    record {
+      in-rw = rw rw-comes (omega arith);
+      in-ro = λ m q. let e : m ≡ middle = same m (sym q ∙ rw-ends) in rw (e, ro-comes) (omega arith);
+    }
+  where
+    same : (m : State) → ended m ≡ ended middle → m ≡ middle
+    same m h = cc
+
+-- note 7 of this module: its premise is met
+pub example-as-before : AsBefore 2 rwString roString
+example-as-before = as-before 2 rwString roString example-few

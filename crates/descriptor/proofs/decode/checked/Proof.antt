@@ -10,7 +10,7 @@ use lib.Dec.{eqb}
 use denote.Ref.{now}
 use borrow.Author.Tests.{lt-ltb, le-ltb, eq-eqb, ne-eqb}
 use Rattle.rules.specs.Parameter.{rowOf}
-use Rattle.rules.specs.Descriptor.{byteAt, entryAt, overruns, lengthChecks}
+use Rattle.rules.specs.Descriptor.{byteAt, entryAt, overruns, lengthChecks, decodeWithin}
 use Rattle.descriptor.specs.Rows.{rowAt}
 use Rattle.descriptor.proofs.TableRows.{row}
 use Rattle.descriptor.proofs.Chain.{pass, stop}
@@ -44,8 +44,8 @@ add-if1 : tie.Need-add-if1
 add-if1 c = search needs
 
 returns : tie.Need-returns
-unfolding lengthChecks
-returns c = let g = c .before .before .args in stop _ _ _ _ (rw (eq-eqb (length (now (g .s)) - g .at) 1 (omega (arith, c .if1 .taken))) refl)
+unfolding decodeWithin lengthChecks
+returns c = let g = c .before .before .args in pass _ _ _ _ refl (stop _ _ _ _ (rw (eq-eqb (length (now (g .s)) - g .at) 1 (omega (arith, c .if1 .taken))) refl))
 
 add-length : tie.Need-add-length
 add-length c = search needs
@@ -60,10 +60,10 @@ add-if2 : tie.Need-add-if2
 add-if2 c = omega (arith, length-lt c, c .before .before .before .pre .0 .inside, c .before .before .before .pre .0 .short)
 
 returns-2 : tie.Need-returns-2
-unfolding lengthChecks
+unfolding decodeWithin lengthChecks
 returns-2 c =
     let g = c .before .before .before .before .args in
-    stop _ _ _ _ (rw (more (c .before .before), lt-ltb (length (now (g .s)) - g .at) (byteAt (now (g .s)) (g .at + 1)) (omega (arith, c .if2 .taken))) refl)
+    pass _ _ _ _ refl (stop _ _ _ _ (rw (more (c .before .before), lt-ltb (length (now (g .s)) - g .at) (byteAt (now (g .s)) (g .at + 1)) (omega (arith, c .if2 .taken))) refl))
 
 shared-slice-read-class-of : tie.Need-shared-slice-read-class-of
 shared-slice-read-class-of c = search needs
@@ -87,8 +87,8 @@ add-if3 : tie.Need-add-if3
 add-if3 c = record { fits = omega (arith, least-small c, c .before .before .before .before .before .before .before .pre .0 .mask-top) }
 
 returns-3 : tie.Need-returns-3
-unfolding lengthChecks
-returns-3 c = let k = c .before in pass _ _ _ _ (one (k .before .before .before)) (rw (← least k) (stop _ _ _ _ (lt-ltb _ _ (c .if3 .taken))))
+unfolding decodeWithin lengthChecks
+returns-3 c = let k = c .before in pass _ _ _ _ refl (pass _ _ _ _ (one (k .before .before .before)) (rw (← least k) (stop _ _ _ _ (lt-ltb _ _ (c .if3 .taken)))))
 
 content-requires : tie.Need-content-requires
 content-requires c κs =
@@ -105,8 +105,8 @@ content-requires c κs =
     }
 
 returns-4 : tie.Need-returns-4
-unfolding lengthChecks
-returns-4 c = let e = c .before in let k = e .before in pass _ _ _ _ (one (k .before .before .before)) (rw (← least k) (pass _ _ _ _ (le-ltb _ _ (e .if3 .left)) (c .content .ensures)))
+unfolding decodeWithin lengthChecks
+returns-4 c = let e = c .before in let k = e .before in pass _ _ _ _ refl (pass _ _ _ _ (one (k .before .before .before)) (rw (← least k) (pass _ _ _ _ (le-ltb _ _ (e .if3 .left)) (c .content .ensures))))
 
 pub checked-spec : {M : Type 1} → statement M
 checked-spec =

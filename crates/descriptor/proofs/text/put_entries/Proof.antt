@@ -26,7 +26,7 @@ gone : (c : tie.After-known-told Inv-loop μ-loop) →
 gone c = went _ _ _ _ _ (sym (c .before .before .before .decode .ensures) ∙ c .before .d .given .1)
 
 loop-holds : tie.Need-loop-holds Inv-loop μ-loop
-loop-holds c = writing-begin _ _ _ _ _ _ (c .before .pre .0 .numbers) (c .before .pre .0 .sum)
+loop-holds c = writing-begin _ _ _ _ _ _ (c .before .pre .0 .first) (c .before .pre .0 .sum)
 
 decode-requires : tie.Need-decode-requires Inv-loop μ-loop
 decode-requires c κs =
@@ -39,7 +39,7 @@ decode-requires c κs =
       mask-top = p .mask-top;
       inside = c .loop-test .taken;
       short = p .short;
-      numbers = l .loop .inv .numbers;
+      first = l .loop .inv .first;
       sum = l .loop .inv .sum;
     }
 
@@ -66,7 +66,7 @@ put-entry-requires c κs =
       record {
         inside = omega (arith, e .within, e .long, p .0 .mask-low);
         short = p .0 .short;
-        number = omega (arith, e .few, l .loop .inv .numbers .first);
+        number = omega (arith, e .few, l .loop .inv .first);
         sum = omega (arith, l .loop .inv .sum);
       },
       omega (arith, l .loop .inv .put .next, l .loop .inv .put .room, p .1, p .0 .mask-low, e .within, e .long),

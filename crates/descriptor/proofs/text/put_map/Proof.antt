@@ -33,7 +33,7 @@ put-entries-requires c κs =
             mask-low = k .mask-bytes .ensures .1;
             mask-top = k .mask-bytes .ensures .2;
             short = z .rw;
-            numbers = record { begun = omega arith; first = omega arith };
+            first = omega arith;
             sum = omega arith;
           }),
       omega (arith, t .put-text .ensures .next, z .rw),
@@ -58,7 +58,7 @@ put-entries-requires-2 c κs =
             mask-low = k .mask-bytes .ensures .1;
             mask-top = k .mask-bytes .ensures .2;
             short = z .ro;
-            numbers = record { begun = omega arith; first = m .number };
+            first = m .number;
             sum = m .sum;
           }),
       omega (arith, t .put-text .ensures .next, x .put-entries .ensures .put .next, x .put-entries .ensures .put .room, z .rw, z .ro),

@@ -27,7 +27,7 @@ gone : (c : tie.After-known-told Inv-loop μ-loop) →
 gone c = went _ _ _ _ _ (sym (c .before .before .before .decode .ensures) ∙ c .before .d .given .1)
 
 loop-holds : tie.Need-loop-holds Inv-loop μ-loop
-loop-holds c = scan-begin _ _ _ _ _ (c .before .pre .numbers) (c .before .pre .sum)
+loop-holds c = scan-begin _ _ _ _ _ (c .before .pre .first) (c .before .pre .sum)
 
 decode-requires : tie.Need-decode-requires Inv-loop μ-loop
 decode-requires c κs =
@@ -40,7 +40,7 @@ decode-requires c κs =
       mask-top = b .pre .mask-top;
       inside = c .loop-test .taken;
       short = b .pre .short;
-      numbers = l .loop .inv .numbers;
+      first = l .loop .inv .first;
       sum = l .loop .inv .sum;
     }
 
