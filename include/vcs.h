@@ -39,6 +39,29 @@ typedef struct {
     size_t active_length;
 } vcs_loaded;
 
+/* What a load keeps after an entry, and all that it keeps: the string that it is in (0 RW, any other number RO), whether a
+   media-side entry of the table has been passed in either string (0 no, any other number yes), the entries passed of that
+   string, the entries before that string, the sum of the MemoryLengths passed and, in the RO string, the staged length.
+   A load begins with all of them 0. In an answer `string` and `media` are 0 or 1. */
+typedef struct {
+    uint8_t string;
+    uint8_t media;
+    uint8_t entries;
+    uint8_t before;
+    uint16_t sum;
+    uint16_t staged_length;
+} vcs_state;
+
+/* What a load that is made entry by entry comes to: past an entry, its length and the state after it; or the end, where no
+   byte is left (`end` is 1, and all others are 0). */
+typedef struct {
+    size_t refusal;
+    size_t at;
+    size_t end;
+    size_t length;
+    vcs_state state;
+} vcs_passed;
+
 /* Where an entry stands: in which string (0 RW, 1 RO), its start and length there, and its offset in a set. */
 typedef struct {
     size_t refusal;
@@ -104,6 +127,17 @@ typedef struct {
 
 /* The load: the check of both strings. Refusals 9, 16, 1 to 7. */
 vcs_loaded vcs_load(size_t count, const uint8_t *rw, size_t rw_length, const uint8_t *ro, size_t ro_length);
+
+/* Pass: one entry of a load that is made entry by entry. In the RW string, `rw` are the bytes of it that are not yet read, and
+   `ro` is the RO string; with no byte of the RW string left, the entry is the first of the RO string. In the RO string, `ro`
+   are the bytes of it that are not yet read, and `rw` isn't read. The bytes of the entry may be all that is lent: those behind
+   it change nothing. Refusals 9 (of the count, and of what is lent), 16, 1 to 7. */
+vcs_passed vcs_pass(size_t count, const uint8_t *rw, size_t rw_length, const uint8_t *ro, size_t ro_length, vcs_state state);
+
+/* Resume: the load taken up again after an entry, given the state that pass left there and the bytes not yet read, as above.
+   It answers what the load of the whole strings answers, if these are within 120 bytes; from a state of all 0 it is the load.
+   A state that no load comes to is taken as it stands. Refusals 9 (of the count, and of what is lent), 16, 1 to 7. */
+vcs_loaded vcs_resume(size_t count, const uint8_t *rw, size_t rw_length, const uint8_t *ro, size_t ro_length, vcs_state state);
 
 /* The entry call: the entry's own bytes are `length` bytes from `start` of its string. Refusals 9, 16, 1 to 7, 10. */
 vcs_located vcs_entry(size_t count, const uint8_t *rw, size_t rw_length, const uint8_t *ro, size_t ro_length, size_t entry);

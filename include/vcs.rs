@@ -50,6 +50,33 @@ pub struct Loaded {
     pub active_length: usize,
 }
 
+/// What a load keeps after an entry, and all that it keeps: the string that it is in (0 RW, any other number RO), whether
+/// a media-side entry of the table has been passed in either string (0 no, any other number yes), the entries passed of
+/// that string, the entries before that string, the sum of the MemoryLengths passed and, in the RO string, the staged
+/// length. A load begins with all of them 0, `State::default()`. In an answer `string` and `media` are 0 or 1.
+#[repr(C)]
+#[derive(Clone, Copy, Debug, Default, PartialEq, Eq)]
+pub struct State {
+    pub string: u8,
+    pub media: u8,
+    pub entries: u8,
+    pub before: u8,
+    pub sum: u16,
+    pub staged_length: u16,
+}
+
+/// What a load that is made entry by entry comes to: past an entry, its length and the state after it; or the end, where
+/// no byte is left (`end` is 1, and all others are 0).
+#[repr(C)]
+#[derive(Clone, Copy, Debug, Default, PartialEq, Eq)]
+pub struct Passed {
+    pub refusal: usize,
+    pub at: usize,
+    pub end: usize,
+    pub length: usize,
+    pub state: State,
+}
+
 /// Where an entry stands: in which string (0 RW, 1 RO), its start and length there, and its offset in a set.
 #[repr(C)]
 #[derive(Clone, Copy, Debug, Default, PartialEq, Eq)]
@@ -143,6 +170,18 @@ calls! {
     /// The load: the check of both strings. Refusals 9, 16, 1 to 7.
     load() -> Loaded = vcs_load();
 
+    /// Pass: one entry of a load that is made entry by entry. In the RW string, `rw` are the bytes of it that are not yet
+    /// read, and `ro` is the RO string; with no byte of the RW string left, the entry is the first of the RO string. In the
+    /// RO string, `ro` are the bytes of it that are not yet read, and `rw` isn't read. The bytes of the entry may be all that
+    /// is lent: those behind it change nothing. Refusals 9 (of the count, and of what is lent), 16, 1 to 7.
+    pass(state: State) -> Passed = vcs_pass(state);
+
+    /// Resume: the load taken up again after an entry, given the state that pass left there and the bytes not yet read, as
+    /// above. It answers what the load of the whole strings answers, if these are within 120 bytes; from a state of all 0 it
+    /// is the load. A state that no load comes to is taken as it stands. Refusals 9 (of the count, and of what is lent), 16,
+    /// 1 to 7.
+    resume(state: State) -> Loaded = vcs_resume(state);
+
     /// The entry call: the entry's own bytes are `length` bytes from `start` of its string. Refusals 9, 16, 1 to 7, 10.
     entry(entry: usize) -> Located = vcs_entry(entry);
 
@@ -211,6 +250,10 @@ pub fn take(count: usize, string: &[u8], position: usize) -> Taken {
 #[allow(dead_code)]
 unsafe extern "C" {
     pub fn vcs_load(count: usize, rw: *const u8, rw_length: usize, ro: *const u8, ro_length: usize) -> Loaded;
+    pub fn vcs_pass(count: usize, rw: *const u8, rw_length: usize, ro: *const u8, ro_length: usize,
+                    state: State) -> Passed;
+    pub fn vcs_resume(count: usize, rw: *const u8, rw_length: usize, ro: *const u8, ro_length: usize,
+                      state: State) -> Loaded;
     pub fn vcs_entry(count: usize, rw: *const u8, rw_length: usize, ro: *const u8, ro_length: usize,
                      entry: usize) -> Located;
     pub fn vcs_place(count: usize, rw: *const u8, rw_length: usize, ro: *const u8, ro_length: usize,

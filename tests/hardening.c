@@ -8,6 +8,9 @@
    must occur, and every ID that write takes must have an accepted write and each refusal that its entry can have. In either
    string 16 entries must be accepted, and a 17th refused: a good one, one byte, and one that is refused even alone, with each
    number that this can have; take must take one.
+   A load made entry by entry must end as the load does. Pass and resume are called where it was broken off, and with any
+   state. Pass must answer by the entry's bytes and the state alone, resume as pass after pass does, and the same from behind
+   an entry as from before it. Both must occur in either string and between them, with each refusal.
 
    gcc -std=c11 -Wall -Wextra -Werror -O2 -I include tests/hardening.c target/staticlib/libvcs.a -o target/hardening
    target/hardening [calls [seed]] */
@@ -25,12 +28,12 @@ enum { PAGE = 4096, LONGEST = 120, LARGEST = VCS_SET_SIZE };
 /* The exports, perform by kind; the first seven are numbered as perform's kinds. */
 enum {
     SELECT, WRITE, READ, BYTE_WRITE, BYTE_READ, PUBLISH, APPLY, PERFORM, LOAD = PERFORM + 7, ENTRY, PLACE, OWNER, FRESH,
-    WEIGHT, TAKE, EXPORTS
+    WEIGHT, TAKE, PASS, RESUME, EXPORTS
 };
 static const char *const NAMES[EXPORTS] = {
     "select", "write", "read", "byte write", "byte read", "publish", "apply", "perform select", "perform write",
     "perform read", "perform byte write", "perform byte read", "perform publish", "perform apply", "load", "entry", "place",
-    "owner", "fresh", "weight", "take",
+    "owner", "fresh", "weight", "take", "pass", "resume",
 };
 
 /* What a refusal names, by its number, and whether count, strings and bank alone decide it; 0 stands for an accepted call,
@@ -55,6 +58,11 @@ static size_t written[256], stopped[256][NUMBERS];
 /* By string: accepted maps with 16 entries in it; 17th entries of one byte, those with more, by the refusal that the entry
    has alone, and those that were taken. */
 static size_t full[2], strays[2], seventeenths[2][NUMBERS], seventeenths_taken[2];
+
+/* Where a load in pieces stands: in the RW string, at its end, or in the RO string. By this, and by refusal (0: none): passes
+   and resumes; the ends that pass told; the passes that left a number of the state above 1 as 1. */
+enum { IN_RW, BETWEEN, IN_RO, PLACES };
+static size_t passes[PLACES][NUMBERS], resumes[PLACES][NUMBERS], ends[PLACES], flags[2];
 
 /* ---- Random numbers: splitmix64 ---- */
 
@@ -425,6 +433,212 @@ static void check_refused(void)
     }
 }
 
+/* ---- A load in pieces ---- */
+
+/* The bytes of both strings that are not yet read, and what the load keeps. */
+typedef struct {
+    const uint8_t *rw;
+    size_t rw_length;
+    const uint8_t *ro;
+    size_t ro_length;
+    vcs_state kept;
+} rest;
+
+/* The load of the map, broken off before some entry or at its end. */
+static rest broken;
+
+#define LEFT(r) count, (r).rw, (r).rw_length, (r).ro, (r).ro_length, (r).kept
+
+static int place_of(rest r)
+{
+    return r.kept.string != 0 ? IN_RO : r.rw_length == 0 ? BETWEEN : IN_RW;
+}
+
+static vcs_state into_ro(vcs_state s)
+{
+    return (vcs_state){1, s.media, 0, s.entries, s.sum, s.sum};
+}
+
+/* What is left behind an entry. */
+static rest behind(rest r, vcs_passed entry)
+{
+    if (place_of(r) == IN_RW) {
+        r.rw += entry.length;
+        r.rw_length -= entry.length;
+    } else {
+        r.ro += entry.length;
+        r.ro_length -= entry.length;
+    }
+    r.kept = entry.state;
+    return r;
+}
+
+/* The next entry's bytes alone: ID, Length and what Length tells, or less where the string ends. */
+static rest alone(rest r)
+{
+    int in_rw = place_of(r) == IN_RW;
+    const uint8_t *bytes = in_rw ? r.rw : r.ro;
+    size_t left = in_rw ? r.rw_length : r.ro_length, told = left < 2 || bytes[1] < 2 ? 2 : bytes[1];
+    size_t length = told < left ? told : left;
+    return in_rw ? (rest){bytes, length, NULL, 0, r.kept} : (rest){NULL, 0, bytes, length, r.kept};
+}
+
+/* What pass must come to, by what the load says of the entry alone: 1 to 5; 9, 16, 6, 7 and the state as their words say. */
+static vcs_passed pass_expected(rest r)
+{
+    int in_rw = place_of(r) == IN_RW;
+    vcs_state s = place_of(r) == BETWEEN ? into_ro(r.kept) : r.kept;
+    const uint8_t *entry = in_rw ? r.rw : r.ro;
+    size_t left = in_rw ? r.rw_length : r.ro_length, at = (size_t)s.before + s.entries, a = count <= 8 ? 1 : 2;
+    if (count < 1 || count > 15 || r.rw_length > LONGEST || r.ro_length > LONGEST) {
+        return (vcs_passed){.refusal = 9};
+    }
+    if (left == 0) {
+        return (vcs_passed){.end = 1};
+    }
+    if (s.entries >= VCS_ENTRY_LIMIT) {
+        return (vcs_passed){.refusal = 16, .at = at};
+    }
+    vcs_loaded first = vcs_load(count, entry, in_rw ? left : 0, entry, in_rw ? 0 : left);
+    if (first.refusal != 0 && first.at == 0) {
+        return (vcs_passed){.refusal = first.refusal, .at = at};
+    }
+    uint8_t id = entry[0], memory = entry[2 + a];
+    int media = id >= 0x02 && id <= 0x12 && entry[3 + a] % 2 == 1;
+    if (id >= 0x02 && id <= 0x08 && !media && s.media != 0) {
+        return (vcs_passed){.refusal = 6, .at = at};
+    }
+    if (s.sum + memory > LARGEST) {
+        return (vcs_passed){.refusal = 7, .at = at};
+    }
+    s = (vcs_state){s.string != 0, s.media != 0 || media, (uint8_t)(s.entries + 1), s.before, (uint16_t)(s.sum + memory),
+                    s.staged_length};
+    return (vcs_passed){.length = entry[1], .state = s};
+}
+
+/* What resume must answer: pass after pass, up to a refusal or the end. */
+static vcs_loaded resume_expected(rest r)
+{
+    vcs_passed step = pass_expected(r);
+    for (; step.refusal == 0 && step.end == 0; step = pass_expected(r)) {
+        r = behind(r, step);
+    }
+    vcs_state s = place_of(r) == IN_RO ? r.kept : into_ro(r.kept);
+    return step.end == 0 ? (vcs_loaded){.refusal = step.refusal, .at = step.at}
+                         : (vcs_loaded){0, 0, s.before, s.entries, s.staged_length, s.sum};
+}
+
+/* Neither answer has padding. */
+static int same_loaded(vcs_loaded one, vcs_loaded other)
+{
+    return memcmp(&one, &other, sizeof one) == 0;
+}
+
+/* The load of the map, entry by entry, ends as the load did; broken off somewhere, it is taken up again likewise. */
+static void load_in_pieces(void)
+{
+    rest r = {buffers[RW].lent, buffers[RW].length, buffers[RO].lent, buffers[RO].length, {0}};
+    vcs_passed step = {0};
+    for (size_t breaks = 1; step.refusal == 0 && step.end == 0; breaks++) {
+        if (breaks > 2 * VCS_ENTRY_LIMIT + 1) {
+            fail("pass", "it goes past more entries than there are");
+        }
+        broken = once_in(breaks) ? r : broken;
+        step = vcs_pass(LEFT(r));
+        r = step.refusal == 0 && step.end == 0 ? behind(r, step) : r;
+    }
+    if (step.refusal != map.refusal || step.at != map.at || !same_loaded(vcs_resume(LEFT(r)), map)) {
+        fail("pass", "the load in pieces has another end");
+    }
+    broken = step.refusal != 0 && once_in(2) ? r : broken; /* Before the entry that is refused. */
+    if (!same_loaded(vcs_resume(LEFT(broken)), map)) {
+        fail("resume", "another answer than the load's");
+    }
+}
+
+/* Changes a member of a state. */
+static void change_state(vcs_state *s)
+{
+    switch (below(6)) {
+    case 0:
+        s->string = PICK(uint8_t, 0, 1, 2, 255);
+        break;
+    case 1:
+        s->media = PICK(uint8_t, 0, 1, 2, 255);
+        break;
+    case 2:
+        s->entries = PICK(uint8_t, 0, 15, 16, 17, 255);
+        break;
+    case 3:
+        s->before = PICK(uint8_t, 0, 16, 17, 255);
+        break;
+    case 4:
+        s->sum = PICK(uint16_t, 0, 1, 240, 255, 256, 257, 65279, 65280, 65281, 65535);
+        break;
+    default:
+        s->staged_length = PICK(uint16_t, 0, 256, 257, 65535);
+        break;
+    }
+}
+
+/* What pass and resume are given: the load where it was broken off, often with another state, or with what is left behind
+   any byte. In the RO string, `rw` isn't read: it may stand in a page that can't be touched. */
+static rest any_rest(void)
+{
+    rest r = broken;
+    if (once_in(16)) {
+        size_t rw = below(buffers[RW].length + 1), ro = below(buffers[RO].length + 1);
+        r = (rest){rw == 0 ? buffers[RW].lent : buffers[RW].lent + rw, buffers[RW].length - rw,
+                   ro == 0 ? buffers[RO].lent : buffers[RO].lent + ro, buffers[RO].length - ro, r.kept};
+    }
+    for (size_t changes = once_in(2) ? below(4) : 0; changes > 0; changes--) {
+        change_state(&r.kept);
+    }
+    if (once_in(32)) {
+        uint64_t word = next();
+        memcpy(&r.kept, &word, sizeof r.kept);
+    }
+    if (r.kept.string != 0 && once_in(2)) {
+        r.rw = buffers[RW].page + PAGE;
+        r.rw_length = once_in(8) ? LONGEST + 1 : below(LONGEST + 1);
+    }
+    return r;
+}
+
+static void pass(void)
+{
+    rest r = any_rest();
+    vcs_passed answer = vcs_pass(LEFT(r)), expected = pass_expected(r), own = vcs_pass(LEFT(alone(r)));
+    if (memcmp(&answer, &expected, sizeof answer) != 0) {
+        fail("pass", "another answer");
+    }
+    if (answer.refusal != 9 && memcmp(&answer, &own, sizeof answer) != 0) {
+        fail("pass", "another answer to the entry's bytes alone");
+    }
+    int place = place_of(r), past = answer.refusal == 0 && answer.end == 0;
+    if (past && !same_loaded(vcs_resume(LEFT(r)), vcs_resume(LEFT(behind(r, answer))))) {
+        fail("resume", "behind an entry, another answer than before it");
+    }
+    passes[place][answer.refusal] += past || answer.refusal != 0;
+    ends[place] += answer.end;
+    flags[0] += past && r.kept.string > 1;
+    flags[1] += past && r.kept.media > 1;
+    (answer.refusal == 0 ? accepted : refused)[PASS]++;
+}
+
+static void resume(void)
+{
+    rest r = any_rest();
+    vcs_loaded answer = vcs_resume(LEFT(r));
+    if (!same_loaded(answer, resume_expected(r))) {
+        fail("resume", "another answer");
+    }
+    resumes[place_of(r)][answer.refusal]++;
+    (answer.refusal == 0 ? accepted : refused)[RESUME]++;
+}
+
+/* ---- Any map ---- */
+
 /* The position after the last step over a string. */
 static size_t positions[2];
 
@@ -466,6 +680,7 @@ static void make_map(void)
     } else if (map.refusal < NUMBERS && REFUSALS[map.refusal].names == AN_ENTRY) {
         check_refused();
     }
+    load_in_pieces();
 }
 
 /* ---- One call ---- */
@@ -559,7 +774,7 @@ static void take(void)
                answer.position != position + answer.length) {
         fail("take", "an entry outside its string");
     } else {
-        seventeenths_taken[string] += over;
+        seventeenths_taken[string] += over != 0;
     }
     positions[string] = answer.position;
     (answer.refusal == 0 ? accepted : refused)[TAKE]++;
@@ -599,6 +814,8 @@ static void call_one(size_t export)
     case FRESH: is_accepted = JUDGE(vcs_loaded, vcs_fresh(LENT, LENT_BANK)); break;
     case WEIGHT: is_accepted = JUDGE(vcs_answer, vcs_weight(LENT, LENT_BANK, c.entry, c.lane)); break;
     case TAKE: take(); break;
+    case PASS: pass(); break;
+    case RESUME: resume(); break;
     case EXPORTS: perform_none(c); break;
     default: is_accepted = JUDGE(vcs_answer, vcs_perform(LENT, LENT_BANK, c)); break;
     }
@@ -665,6 +882,28 @@ static void demand_limit(void)
     }
 }
 
+/* 6 is a refusal of RW entries; the first RO entry isn't a 17th. */
+static void demand_pieces(void)
+{
+    for (int place = IN_RW; place < PLACES; place++) {
+        const char *name = place == IN_RW ? "in RW" : place == BETWEEN ? "between the strings" : "in RO";
+        for (size_t i = 0; i < NUMBERS; i++) {
+            int occurs = i == 0 || i == 9 || (REFUSALS[i].names == AN_ENTRY && (i != 6 || place == IN_RW));
+            int passed = occurs && (i != 16 || place != BETWEEN);
+            if ((passed && passes[place][i] == 0) || (occurs && resumes[place][i] == 0)) {
+                printf("hardening: no pass or no resume %s with refusal %zu\n", name, i);
+                exit(1);
+            }
+        }
+        if ((ends[place] == 0) != (place == IN_RW)) {
+            fail("pass", "an end in RW, or none elsewhere");
+        }
+    }
+    if (flags[0] == 0 || flags[1] == 0) {
+        fail("pass", "no string or no media above 1");
+    }
+}
+
 int main(int words, char **word)
 {
     calls = words > 1 ? strtoull(word[1], NULL, 10) : calls;
@@ -682,6 +921,7 @@ int main(int words, char **word)
     demand_calls();
     demand_ids();
     demand_limit();
+    demand_pieces();
     printf("hardening: %zu calls, seed %zu\n", made, seed);
     return 0;
 }

@@ -1,5 +1,5 @@
 /* Checks the C interface: the layout that include/vcs.h promises, and answers worked out by hand from document 01 and
-   notes 1 and 7 of document 02.
+   notes 1, 7 and 8 of document 02.
 
    gcc -std=c11 -Wall -Wextra -Werror -I include tests/interface.c target/staticlib/libvcs.a -o target/interface */
 #include <stdio.h>
@@ -28,6 +28,10 @@ AT(vcs_loaded, rw_count, 2);
 AT(vcs_loaded, ro_count, 3);
 AT(vcs_loaded, staged_length, 4);
 AT(vcs_loaded, active_length, 5);
+ANSWER(vcs_passed, 5);
+AT(vcs_passed, end, 2);
+AT(vcs_passed, length, 3);
+MEMBER(vcs_passed, state, vcs_state, 32);
 ANSWER(vcs_located, 6);
 AT(vcs_located, string, 2);
 AT(vcs_located, start, 3);
@@ -56,6 +60,14 @@ MEMBER(vcs_call, value, int64_t, 56);
 MEMBER(vcs_call, byte, uint8_t, 64);
 MEMBER(vcs_call, lanes, uint8_t, 65);
 
+_Static_assert(sizeof(vcs_state) == 8, "vcs_state has four bytes and two numbers of two bytes");
+MEMBER(vcs_state, string, uint8_t, 0);
+MEMBER(vcs_state, media, uint8_t, 1);
+MEMBER(vcs_state, entries, uint8_t, 2);
+MEMBER(vcs_state, before, uint8_t, 3);
+MEMBER(vcs_state, sum, uint16_t, 4);
+MEMBER(vcs_state, staged_length, uint16_t, 6);
+
 _Static_assert(sizeof(vcs_taken) == 5 * sizeof(size_t), "vcs_taken has five numbers");
 AT(vcs_taken, refusal, 0);
 AT(vcs_taken, end, 1);
@@ -72,6 +84,10 @@ _Static_assert(VCS_APP_SEL_AT(0, 1) == 768 && VCS_APP_SEL_AT(1, 1) == 776 && VCS
 
 _Static_assert(_Generic(&vcs_load,
     vcs_loaded (*)(size_t, const uint8_t *, size_t, const uint8_t *, size_t): 1, default: 0), "vcs_load");
+_Static_assert(_Generic(&vcs_pass,
+    vcs_passed (*)(size_t, const uint8_t *, size_t, const uint8_t *, size_t, vcs_state): 1, default: 0), "vcs_pass");
+_Static_assert(_Generic(&vcs_resume,
+    vcs_loaded (*)(size_t, const uint8_t *, size_t, const uint8_t *, size_t, vcs_state): 1, default: 0), "vcs_resume");
 _Static_assert(_Generic(&vcs_entry,
     vcs_located (*)(size_t, const uint8_t *, size_t, const uint8_t *, size_t, size_t): 1, default: 0), "vcs_entry");
 _Static_assert(_Generic(&vcs_place,
@@ -185,10 +201,70 @@ static void check(const char *name, map m, const void *answer, size_t size, cons
     kept(name, 1, m.ro, m.ro_length);
 }
 
+/* A state's members. */
+#define MEMBERS(s) NUMBERS((s).string, (s).media, (s).entries, (s).before, (s).sum, (s).staged_length)
+
+static void pass(const char *name, map m, vcs_state state, vcs_passed expected)
+{
+    vcs_passed answer = vcs_pass(LENT(m), state);
+    check(name, m, &answer, offsetof(vcs_passed, state),
+          NUMBERS(expected.refusal, expected.at, expected.end, expected.length));
+    same(name, MEMBERS(answer.state), 6 * sizeof(size_t), MEMBERS(expected.state));
+}
+
+static void resume(const char *name, map m, vcs_state state, const size_t expected[6])
+{
+    vcs_loaded answer = vcs_resume(LENT(m), state);
+    check(name, m, &answer, sizeof answer, expected);
+}
+
+/* The bytes not yet read, once an entry has been passed. */
+static map behind(map m, vcs_passed entry)
+{
+    *(entry.state.string == 0 ? &m.rw : &m.ro) += entry.length;
+    *(entry.state.string == 0 ? &m.rw_length : &m.ro_length) -= entry.length;
+    return m;
+}
+
+/* The next entry's bytes alone: ID, Length and what Length tells, or less where the string ends. */
+static map alone(map m, vcs_state state)
+{
+    int in_rw = state.string == 0 && m.rw_length > 0;
+    const uint8_t *bytes = in_rw ? m.rw : m.ro;
+    size_t left = in_rw ? m.rw_length : m.ro_length, told = left < 2 || bytes[1] < 2 ? 2 : bytes[1];
+    size_t length = told < left ? told : left;
+    return in_rw ? (map){m.count, bytes, length, NULL, 0} : (map){m.count, NULL, 0, bytes, length};
+}
+
+/* The load made entry by entry: it ends as expected and, broken off before any entry, it is taken up again with the answer
+   expected. Pass answers alike if the entry's bytes alone are lent. */
+static void in_pieces(const char *name, map m, const size_t expected[6])
+{
+    vcs_state state = {0};
+    for (;;) {
+        resume(name, m, state, expected);
+        vcs_passed next = vcs_pass(LENT(m), state);
+        int past = next.refusal == 0 && next.end == 0;
+        if (!past) {
+            pass(name, m, state, (vcs_passed){expected[0], expected[1], expected[0] == 0, 0, {0}});
+        }
+        if (next.refusal != 9) {
+            pass(name, alone(m, state), state, next);
+        }
+        if (!past) {
+            return;
+        }
+        m = behind(m, next);
+        state = next.state;
+    }
+}
+
+/* The load, at once and in pieces. */
 static void load(const char *name, map m, const size_t expected[6])
 {
     vcs_loaded answer = vcs_load(LENT(m));
     check(name, m, &answer, sizeof answer, expected);
+    in_pieces(name, m, expected);
 }
 
 static void entry(const char *name, map m, size_t number, const size_t expected[6])
@@ -1267,6 +1343,191 @@ static void spaces(void)
     }
 }
 
+/* 02h of 1 byte; 00h that reserves 2, whose last byte is no PropertyFlags; 05h of 1, media side; 0Fh of 8, host side; 11h of
+   16 bytes, 12h of 9. */
+#define THE_PIECES \
+    {4, \
+     BYTES(0x02, 0x05, 0x0B, 0x01, 0x00, 0x00, 0x05, 0x00, 0x02, 0x01, 0x05, 0x05, 0x0F, 0x01, 0x01, \
+           0x0F, 0x05, 0x0F, 0x08, 0x00), \
+     BYTES(0x11, 0x05, 0x01, 0x10, 0x00, 0x12, 0x08, 0x01, 0x09, 0x00, 0xFF, 0x00, 0x77)}
+
+/* What pass comes to: an entry's length and the members of the state after it; the end; or a refusal. */
+#define PAST(length, ...) ((vcs_passed){0, 0, 0, length, {__VA_ARGS__}})
+#define NO_MORE ((vcs_passed){0, 0, 1, 0, {0}})
+#define NOT_PAST(number, at) ((vcs_passed){number, at, 0, 0, {0}})
+#define STATE(...) ((vcs_state){__VA_ARGS__})
+
+static void passes(void)
+{
+    static const vcs_passed past[] = {
+        {0, 0, 0, 5, {0, 0, 1, 0, 1, 0}},   {0, 0, 0, 5, {0, 0, 2, 0, 3, 0}},   {0, 0, 0, 5, {0, 1, 3, 0, 4, 0}},
+        {0, 0, 0, 5, {0, 1, 4, 0, 12, 0}},  {0, 0, 0, 5, {1, 1, 1, 4, 28, 12}}, {0, 0, 0, 8, {1, 1, 2, 4, 37, 12}},
+    };
+    map m = THE_PIECES;
+    vcs_state state = {0};
+    load("the pieces", m, NUMBERS(0, 0, 4, 2, 12, 37));
+    for (size_t i = 0; i < sizeof past / sizeof past[0]; i++) {
+        pass("an entry of the pieces", m, state, past[i]);
+        m = behind(m, past[i]);
+        state = past[i].state;
+        resume("broken off after an entry", m, state, NUMBERS(0, 0, 4, 2, 12, 37));
+    }
+    pass("the end", m, state, NO_MORE);
+
+    m = (map)THE_PIECES;
+    m.rw_length = 0;
+    pass("at the end of RW", m, STATE(0, 1, 4, 0, 12, 0), PAST(5, 1, 1, 1, 4, 28, 12));
+    resume("at the end of RW", m, STATE(0, 1, 4, 0, 12, 0), NUMBERS(0, 0, 4, 2, 12, 37));
+    m.ro_length = 0;
+    pass("at the end of RW, no RO", m, STATE(0, 1, 4, 0, 12, 0), NO_MORE);
+    resume("at the end of RW, no RO", m, STATE(0, 1, 4, 0, 12, 0), NUMBERS(0, 0, 4, 0, 12, 12));
+    pass("no string", m, STATE(0), NO_MORE);
+
+    m = (map)THE_PIECES;
+    pass("RW isn't read in RO", m, STATE(1, 0, 1, 2, 5, 3), PAST(5, 1, 0, 2, 2, 21, 3));
+    resume("RW isn't read in RO", m, STATE(1, 0, 1, 2, 5, 3), NUMBERS(0, 0, 2, 3, 3, 30));
+    m.rw_length = 1;
+    pass("a bad RW string in RO", m, STATE(1, 0, 1, 2, 5, 3), PAST(5, 1, 0, 2, 2, 21, 3));
+    resume("a bad RW string in RO", m, STATE(1, 0, 1, 2, 5, 3), NUMBERS(0, 0, 2, 3, 3, 30));
+    pass("12h, media side", (map){4, NONE, BYTES(0x12, 0x07, 0x01, 0x08, 0x01, 0x00, 0x00)}, STATE(0),
+         PAST(7, 1, 1, 1, 0, 8, 0));
+    pass("two mask bytes", (map){9, BYTES(0x02, 0x06, 0x00, 0x01, 0x03, 0x01), NONE}, STATE(0), PAST(6, 0, 1, 1, 0, 3, 0));
+    pass("120 bytes", (map){4, (const uint8_t[120]){0x00, 120, 0x00, 0x09}, 120, NONE}, STATE(0),
+         PAST(120, 0, 0, 1, 0, 9, 0));
+    pass("13h, no PropertyFlags", (map){4, BYTES(0x13, 0x05, 0x01, 0x08, 0x01), NONE}, STATE(0), PAST(5, 0, 0, 1, 0, 8, 0));
+}
+
+/* Pass and resume refuse the first entry that is left alike. */
+static void refuse(const char *name, map m, vcs_state state, size_t number, size_t at)
+{
+    pass(given("pass", name), m, state, NOT_PAST(number, at));
+    resume(given("resume", name), m, state, REFUSED(number, at));
+}
+
+/* Entry 3 of the RW string; the RO string's first entry after three, and its entry 3 after five. */
+static void refuse_rw(const char *name, const uint8_t *bytes, size_t length, size_t number)
+{
+    refuse(name, (map){4, bytes, length, NONE}, STATE(0, 0, 3, 0, 10, 0), number, 3);
+}
+
+static void refuse_ro(const char *name, const uint8_t *bytes, size_t length, size_t number)
+{
+    refuse(name, (map){4, NONE, bytes, length}, STATE(0, 0, 3, 0, 10, 0), number, 3);
+    refuse(name, (map){4, NONE, bytes, length}, STATE(1, 0, 3, 5, 10, 7), number, 8);
+}
+
+/* 02h of 1 byte on either side, 12h of 8, and 00h. */
+#define HOST BYTES(0x02, 0x05, 0x0F, 0x01, 0x00)
+#define MEDIA BYTES(0x02, 0x05, 0x0F, 0x01, 0x01)
+#define COEFFICIENT BYTES(0x12, 0x07, 0x0F, 0x08, 0x00, 0x00, 0x00)
+#define SPACE(bytes) BYTES(0x00, 0x04, 0x00, bytes)
+
+static void refusals(void)
+{
+    refuse_rw("one byte left in RW", BYTES(0x02), 1);
+    refuse_rw("Length one over in RW", BYTES(0x02, 0x06, 0x0F, 0x01, 0x00), 1);
+    refuse_rw("Length below the least in RW", BYTES(0x02, 0x04, 0x0F, 0x01, 0x00), 2);
+    refuse_rw("12h in RW", COEFFICIENT, 3);
+    refuse_rw("03h of 1 byte", BYTES(0x03, 0x05, 0x0F, 0x01, 0x00), 4);
+    refuse_rw("09h, step 0", BYTES(0x09, 0x09, 0x01, 0x08, 0x00, 0x00, 0xF8, 0x06, 0x00), 5);
+    refuse_rw("247 bytes after 10 in RW", SPACE(247), 7);
+    refuse_ro("one byte left in RO", BYTES(0x12), 1);
+    refuse_ro("Length one over in RO", BYTES(0x12, 0x08, 0x0F, 0x08, 0x00, 0x00, 0x00), 1);
+    refuse_ro("Length below the least in RO", BYTES(0x12, 0x06, 0x0F, 0x08, 0x00, 0x00, 0x00), 2);
+    refuse_ro("02h in RO", HOST, 3);
+    refuse_ro("12h of 7 bytes", BYTES(0x12, 0x07, 0x0F, 0x07, 0x00, 0x00, 0x00), 4);
+    refuse_ro("12h, step 4", BYTES(0x12, 0x07, 0x0F, 0x08, 0x00, 0x00, 0x04), 5);
+    refuse_ro("247 bytes after 10 in RO", SPACE(247), 7);
+
+    refuse("host side after media side", (map){4, HOST, NONE}, STATE(0, 1, 3, 0, 10, 0), 6, 3);
+    pass("media side after media side", (map){4, MEDIA, NONE}, STATE(0, 1, 3, 0, 10, 0), PAST(5, 0, 1, 4, 0, 11, 0));
+    refuse("6 before 7", (map){4, HOST, NONE}, STATE(0, 1, 3, 0, 256, 0), 6, 3);
+    refuse("7, media side", (map){4, MEDIA, NONE}, STATE(0, 1, 3, 0, 256, 0), 7, 3);
+    refuse("3 before 6, in RO", (map){4, NONE, HOST}, STATE(1, 1, 3, 5, 10, 7), 3, 8);
+    refuse("a 17th RW entry", (map){4, HOST, NONE}, STATE(0, 0, 16, 0, 10, 0), 16, 16);
+    refuse("a 17th RO entry", (map){4, NONE, COEFFICIENT}, STATE(1, 0, 16, 5, 10, 7), 16, 21);
+    refuse("16 before 1, in RW", (map){4, BYTES(0x02), NONE}, STATE(0, 0, 16, 0, 10, 0), 16, 16);
+    refuse("16 before 1, in RO", (map){4, NONE, BYTES(0x02)}, STATE(1, 0, 16, 5, 10, 7), 16, 21);
+    pass("the first RO entry after 16", (map){4, NONE, COEFFICIENT}, STATE(0, 0, 16, 0, 16, 0),
+         PAST(7, 1, 0, 1, 16, 24, 16));
+
+    map m = {4, BYTES(0x02, 0x05, 0x0F, 0x01, 0x00, 0x02, 0x00), COEFFICIENT};
+    pass("pass reads one RW entry", m, STATE(0, 0, 3, 0, 10, 0), PAST(5, 0, 0, 4, 0, 11, 0));
+    resume("the next RW entry is refused", m, STATE(0, 0, 3, 0, 10, 0), REFUSED(2, 4));
+    m = (map){4, HOST, BYTES(0x12, 0x07, 0x0F, 0x08, 0x00, 0x00, 0x00, 0x12)};
+    pass("pass reads no RO entry", m, STATE(0, 0, 3, 0, 10, 0), PAST(5, 0, 0, 4, 0, 11, 0));
+    resume("the second RO entry is refused", m, STATE(0, 0, 3, 0, 10, 0), REFUSED(1, 5));
+    pass("pass reads one RO entry", m, STATE(1, 0, 3, 5, 10, 7), PAST(7, 1, 0, 4, 5, 18, 7));
+    resume("the next RO entry is refused", m, STATE(1, 0, 3, 5, 10, 7), REFUSED(1, 9));
+}
+
+/* 9 is asked of the count and of both lengths lent, whatever the state is. */
+static void refused_with_9(void)
+{
+    static const uint8_t zeros[121];
+    static const vcs_state states[] = {{0}, {0, 0, 3, 0, 10, 0}, {1, 0, 3, 5, 10, 7}, {1, 1, 16, 5, 300, 7}};
+    for (size_t i = 0; i < sizeof states / sizeof states[0]; i++) {
+        refuse("count 0", (map){0, HOST, COEFFICIENT}, states[i], 9, 0);
+        refuse("count 16", (map){16, HOST, COEFFICIENT}, states[i], 9, 0);
+        refuse("count 2^32 + 4", (map){((size_t)1 << 32) + 4, NONE, NONE}, states[i], 9, 0);
+        refuse("RW of 121 bytes", (map){4, zeros, 121, COEFFICIENT}, states[i], 9, 0);
+        refuse("RO of 121 bytes", (map){4, HOST, zeros, 121}, states[i], 9, 0);
+        refuse("RO of 121 bytes alone", (map){4, NONE, zeros, 121}, states[i], 9, 0);
+    }
+    refuse("RW of 120 bytes", (map){4, zeros, 120, NONE}, STATE(0, 0, 3, 0, 10, 0), 2, 3);
+    refuse("RO of 120 bytes", (map){4, NONE, zeros, 120}, STATE(1, 0, 3, 5, 10, 7), 2, 8);
+    pass("RW of 120 bytes in RO", (map){4, zeros, 120, NONE}, STATE(1, 0, 3, 5, 10, 7), NO_MORE);
+    resume("RW of 120 bytes in RO", (map){4, zeros, 120, NONE}, STATE(1, 0, 3, 5, 10, 7), NUMBERS(0, 0, 5, 3, 7, 10));
+}
+
+/* States that no load leaves are taken as they stand. */
+static void any_states(void)
+{
+    map none = {4, NONE, NONE}, rw = {4, SPACE(0), NONE}, ro = {4, NONE, SPACE(0)};
+    pass("string 2", (map){4, NONE, COEFFICIENT}, STATE(2, 0, 3, 5, 10, 7), PAST(7, 1, 0, 4, 5, 18, 7));
+    pass("string 255", ro, STATE(255, 0, 3, 5, 10, 7), PAST(4, 1, 0, 4, 5, 10, 7));
+    refuse("string 255, 02h", (map){4, NONE, HOST}, STATE(255, 0, 3, 5, 10, 7), 3, 8);
+    pass("string 2, no byte", rw, STATE(2, 0, 3, 5, 10, 7), NO_MORE);
+    resume("string 255, no byte", rw, STATE(255, 0, 3, 5, 10, 7), NUMBERS(0, 0, 5, 3, 7, 10));
+    pass("media 255", rw, STATE(0, 255, 3, 0, 10, 0), PAST(4, 0, 1, 4, 0, 10, 0));
+    pass("media 2 into RO", ro, STATE(0, 2, 3, 0, 10, 0), PAST(4, 1, 1, 1, 3, 10, 10));
+    refuse("media 255", (map){4, HOST, NONE}, STATE(0, 255, 3, 0, 10, 0), 6, 3);
+    refuse("media 2", (map){4, HOST, NONE}, STATE(0, 2, 3, 0, 10, 0), 6, 3);
+
+    pass("15 RW entries", rw, STATE(0, 0, 15, 0, 10, 0), PAST(4, 0, 0, 16, 0, 10, 0));
+    pass("15 RO entries", ro, STATE(1, 0, 15, 5, 10, 7), PAST(4, 1, 0, 16, 5, 10, 7));
+    refuse("17 RW entries", rw, STATE(0, 0, 17, 0, 10, 0), 16, 17);
+    refuse("255 RW entries", rw, STATE(0, 0, 255, 0, 10, 0), 16, 255);
+    refuse("255 RO entries after 255", ro, STATE(1, 0, 255, 255, 10, 7), 16, 510);
+    pass("255 entries before RO", ro, STATE(0, 0, 255, 0, 10, 0), PAST(4, 1, 0, 1, 255, 10, 10));
+    resume("255 entries before RO", ro, STATE(0, 0, 255, 0, 10, 0), NUMBERS(0, 0, 255, 1, 10, 10));
+    refuse("the first RO entry after 255", (map){4, NONE, HOST}, STATE(0, 0, 255, 9, 10, 0), 3, 255);
+    pass("255 before an RW entry", rw, STATE(0, 0, 3, 255, 10, 0), PAST(4, 0, 0, 4, 255, 10, 0));
+    refuse("255 before an RW entry", (map){4, COEFFICIENT, NONE}, STATE(0, 0, 3, 255, 10, 0), 3, 258);
+    pass("3 entries, not 255, before RO", ro, STATE(0, 0, 3, 255, 10, 0), PAST(4, 1, 0, 1, 3, 10, 10));
+    resume("3 entries, not 255, before RO", ro, STATE(0, 0, 3, 255, 10, 0), NUMBERS(0, 0, 3, 1, 10, 10));
+
+    pass("sum 256 and 0", rw, STATE(0, 0, 3, 0, 256, 0), PAST(4, 0, 0, 4, 0, 256, 0));
+    pass("sum 0 and 255", (map){4, NONE, SPACE(255)}, STATE(1, 0, 3, 5, 0, 7), PAST(4, 1, 0, 4, 5, 255, 7));
+    pass("sum 1 and 255", (map){4, SPACE(255), NONE}, STATE(0, 0, 3, 0, 1, 0), PAST(4, 0, 0, 4, 0, 256, 0));
+    refuse("sum 2 and 255", (map){4, SPACE(255), NONE}, STATE(0, 0, 3, 0, 2, 0), 7, 3);
+    refuse("sum 256 and 1", (map){4, NONE, SPACE(1)}, STATE(1, 0, 3, 5, 256, 7), 7, 8);
+    refuse("sum 257 and 0", rw, STATE(0, 0, 3, 0, 257, 0), 7, 3);
+    refuse("sum 65535 and 0", ro, STATE(1, 0, 3, 5, 65535, 7), 7, 8);
+    refuse("sum 65535 and 1", (map){4, SPACE(1), NONE}, STATE(0, 0, 3, 0, 65535, 0), 7, 3);
+    refuse("sum 65535 and 255", (map){4, SPACE(255), NONE}, STATE(0, 0, 3, 0, 65535, 0), 7, 3);
+    resume("sum 65535, no byte", none, STATE(0, 0, 3, 0, 65535, 0), NUMBERS(0, 0, 3, 0, 65535, 65535));
+
+    pass("staged 65535 in RW", rw, STATE(0, 0, 3, 0, 10, 65535), PAST(4, 0, 0, 4, 0, 10, 65535));
+    resume("staged 65535 in RW", rw, STATE(0, 0, 3, 0, 10, 65535), NUMBERS(0, 0, 4, 0, 10, 10));
+    pass("staged 65535 in RO", ro, STATE(1, 0, 3, 5, 10, 65535), PAST(4, 1, 0, 4, 5, 10, 65535));
+    resume("staged 65535 in RO", ro, STATE(1, 0, 3, 5, 10, 65535), NUMBERS(0, 0, 5, 4, 65535, 10));
+    pass("the largest state, no byte", none, STATE(255, 255, 255, 255, 65535, 65535), NO_MORE);
+    resume("the largest state, no byte", none, STATE(255, 255, 255, 255, 65535, 65535),
+           NUMBERS(0, 0, 255, 255, 65535, 65535));
+    refuse("the largest state", ro, STATE(255, 255, 255, 255, 65535, 65535), 16, 510);
+}
+
 int main(void)
 {
     loads();
@@ -1290,6 +1551,10 @@ int main(void)
     limits();
     limit_order();
     spaces();
+    passes();
+    refusals();
+    refused_with_9();
+    any_states();
     printf("interface: %d checks\n", checks);
     return 0;
 }

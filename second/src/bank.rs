@@ -30,10 +30,12 @@ struct Expanded {
     appsels: BTreeMap<(usize, usize), usize>,
 }
 
-/// The fields of an owners' list in the order they lie in: entry, part and
-/// lane, the place of the lowest bit, and the owners of all the field's bits,
-/// which lie side by side. Gaps are left out.
-fn fields(owners: &Owners) -> Vec<((usize, usize, usize), usize, &[Option<Owner>])> {
+/// Entry, part and lane, the place of the lowest bit, and the owners of all the
+/// field's bits, which lie side by side.
+type Lying<'a> = ((usize, usize, usize), usize, &'a [Option<Owner>]);
+
+/// The fields of an owners' list in the order they lie in. Gaps are left out.
+fn fields(owners: &Owners) -> Vec<Lying<'_>> {
     let mut list = Vec::new();
     let mut at = 0;
     while at < owners.len() {

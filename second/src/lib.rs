@@ -1,11 +1,14 @@
 //! A second, independent rendering of the paper "The versatile control set:
-//! maps, banks and applied settings", with notes 1 and 7 of its change requests,
-//! "The numeric parameters" and "Sixteen entries". Words in quotes are the
-//! paper's, or a note's or the agreement's where these are named.
+//! maps, banks and applied settings", with notes 1, 7 and 8 of its change
+//! requests, "The numeric parameters", "Sixteen entries" and "One walk through
+//! the strings". Words in quotes are the paper's, or a note's or the agreement's
+//! where these are named.
 //!
-//! Method: both strings are read completely into a list of entries, or the
-//! refusal (`map`). The map is then expanded into one owner for every bit of a
-//! set, and a bank into a dictionary of numbers (`bank`). Every question is
+//! Method: both strings are read in one pass into a list of entries, or the
+//! refusal (`map`). A load broken off is taken up again with one entry that
+//! stands for all that were passed; its next entry alone is judged by the
+//! numbers kept (`kept`). The map is then expanded into one owner for every bit
+//! of a set, and a bank into a dictionary of numbers (`bank`). Every question is
 //! answered from these. The plain table (`table`) judges calls and places
 //! fields by its own rendering of the same words, so that the two can be run
 //! against each other.
@@ -14,6 +17,7 @@
 
 mod bank;
 mod judge;
+mod kept;
 mod map;
 mod program;
 mod questions;
@@ -21,6 +25,7 @@ mod reader;
 mod table;
 
 pub use bank::{fresh, perform, weight};
+pub use kept::{pass, resume};
 pub use program::map_program;
 pub use questions::{entries, entry_bytes, load, owner, place};
 pub use reader::{reader_step, Reader};
@@ -59,6 +64,24 @@ pub struct Loaded {
     pub ro_entries: usize,
     pub staged_length: usize,
     pub active_length: usize,
+}
+
+/// What a load keeps after an entry. Note 8: "a fixed few numbers and flags, no
+/// byte of a string". The default is the beginning of a load.
+#[derive(Clone, Copy, Debug, Default, PartialEq, Eq)]
+pub struct Kept {
+    /// The load is in the RO string: the last entry passed was one of it.
+    pub ro: bool,
+    /// A media-side table entry has been passed.
+    pub media: bool,
+    /// The entries passed of that string.
+    pub entries: usize,
+    /// The entries before that string: 0 in the RW string.
+    pub before: usize,
+    /// The sum of the MemoryLengths so far.
+    pub sum: usize,
+    /// The staged length: known in the RO string, 0 in the RW string.
+    pub staged: usize,
 }
 
 /// One accepted entry. `start` counts from the first byte of its own string,

@@ -9,7 +9,7 @@ pub const LANES: usize = 8;
 pub const SET_BITS: usize = 2048;
 /// The most entries of a string. Note 7: "That becomes the limit for each
 /// string".
-const ENTRY_LIMIT: usize = 16;
+pub const ENTRY_LIMIT: usize = 16;
 
 // ---------------------------------------------------------------------------
 // "Every rule about an ID is read from this table"
@@ -143,6 +143,14 @@ pub struct Entry {
 }
 
 impl Entry {
+    /// An entry of space that stands for entries no longer at hand: the sum of
+    /// their MemoryLengths, and whether one of them was media side.
+    pub fn standing_for(memory: usize, media: bool) -> Entry {
+        let info = EntryInfo { id: 0x00, start: 0, length: 0, offset: 0, memory, in_ro: false };
+        let (apps, row) = ([false; 16], row(info.id));
+        Entry { info, row, apps, media, code_mask: None, range: None, step: None }
+    }
+
     /// The column "accepted values", "if in the mask" where there is one, and
     /// from Min to Max, both in, where these stand. Min above Max accepts none.
     pub fn accepts(&self, value: i64) -> bool {
@@ -227,49 +235,22 @@ pub fn walk(a: usize, string: &[u8], position: usize) -> Step {
     Step::Entry { start: position, length }
 }
 
-/// A piece of a string: an entry's start and length, or the refusal 16, 1 or 2.
-type Piece = Result<(usize, usize), u32>;
-
-/// A string cut into its pieces; a refusal is the last piece.
-fn cut(a: usize, string: &[u8]) -> Vec<Piece> {
-    let mut pieces = Vec::new();
-    let mut position = 0;
-    loop {
-        // Note 7: "16, a 17th entry, given before the other checks of that
-        // entry". Any byte left is the ID of one.
-        if pieces.len() == ENTRY_LIMIT && position < string.len() {
-            pieces.push(Err(16));
-            return pieces;
-        }
-        match walk(a, string, position) {
-            Step::End => return pieces,
-            Step::Refused(number) => {
-                pieces.push(Err(number));
-                return pieces;
-            }
-            // "The next entry begins directly after the last byte."
-            Step::Entry { start, length } => {
-                pieces.push(Ok((start, length)));
-                position = start + length;
-            }
-        }
-    }
-}
-
-/// The decode of one piece.
+/// The decode of one entry.
 #[derive(Clone, Copy, Debug)]
 enum Decoded {
     Entry(Entry),
     Refused(u32),
 }
 
-/// Decodes a piece that follows the entries `before`.
-fn decode(count: usize, string: &[u8], in_ro: bool, piece: Piece, before: &[Entry]) -> Decoded {
-    let (start, length) = match piece {
-        Ok(piece) => piece,
-        Err(number) => return Decoded::Refused(number),
-    };
+/// Decodes the entry that begins at `position`, where a byte is left, and
+/// follows the entries `before`.
+fn decode(count: usize, string: &[u8], in_ro: bool, position: usize, before: &[Entry]) -> Decoded {
     let a = mask_bytes(count);
+    let (start, length) = match walk(a, string, position) {
+        Step::Entry { start, length } => (start, length),
+        Step::Refused(number) => return Decoded::Refused(number),
+        Step::End => unreachable!("a byte is left"),
+    };
     let bytes = &string[start..start + length];
     let id = bytes[0];
     let row = row(id);
@@ -327,7 +308,7 @@ fn decode(count: usize, string: &[u8], in_ro: bool, piece: Piece, before: &[Entr
 
     // 7: "the sum of MemoryLengths passes 256", this entry's own in it
     let offset: usize = before.iter().map(|e| e.info.memory).sum();
-    if offset + memory > 256 {
+    if offset > 256 - memory {
         return Decoded::Refused(7);
     }
 
@@ -343,28 +324,45 @@ fn decode(count: usize, string: &[u8], in_ro: bool, piece: Piece, before: &[Entr
     Decoded::Entry(Entry { info, row, apps, media, code_mask, range, step })
 }
 
+/// Reads a string onto the list, each entry once. `passed` entries stand before
+/// it in the numbering, and `room` more are inside the limit. Answers how many
+/// it has.
+pub fn read_onto(
+    list: &mut Vec<Entry>,
+    count: usize,
+    (string, in_ro): (&[u8], bool),
+    passed: usize,
+    room: usize,
+) -> Result<usize, Refusal> {
+    let (mut position, mut done) = (0, 0);
+    while position < string.len() {
+        // Note 7: "16, a 17th entry, given before the other checks of that
+        // entry". Any byte left is the ID of one.
+        let decoded = match done < room {
+            true => decode(count, string, in_ro, position, list),
+            false => Decoded::Refused(16),
+        };
+        // "The first entry that fails any check ends the load"
+        let Decoded::Entry(entry) = decoded else {
+            return Err(decoded.refusal(passed.saturating_add(done)));
+        };
+        // "The next entry begins directly after the last byte."
+        position += entry.info.length;
+        done += 1;
+        list.push(entry);
+    }
+    Ok(done)
+}
+
 impl Map {
     /// "The load is the check of both strings": 9, then 1 to 7 and 16.
     pub fn read(count: usize, rw: &[u8], ro: &[u8]) -> Result<Map, Refusal> {
         check_9(count, &[rw, ro])?;
-        let a = mask_bytes(count);
 
-        // "Entries are numbered from 0, RW first, RO after." A refusal in the
-        // RW string stands before every RO piece, so these then count nothing.
-        let mut pieces = Vec::new();
-        pieces.extend(cut(a, rw).into_iter().map(|piece| (false, piece)));
-        pieces.extend(cut(a, ro).into_iter().map(|piece| (true, piece)));
-
-        // "The first entry that fails any check ends the load"
-        let mut entries: Vec<Entry> = Vec::new();
-        for (number, &(in_ro, piece)) in pieces.iter().enumerate() {
-            let string = if in_ro { ro } else { rw };
-            let decoded = decode(count, string, in_ro, piece, &entries);
-            let Decoded::Entry(entry) = decoded else {
-                return Err(decoded.refusal(number));
-            };
-            entries.push(entry);
-        }
+        // "Entries are numbered from 0, RW first, RO after."
+        let mut entries = Vec::new();
+        let in_rw = read_onto(&mut entries, count, (rw, false), 0, ENTRY_LIMIT)?;
+        read_onto(&mut entries, count, (ro, true), in_rw, ENTRY_LIMIT)?;
 
         // "The staged length is the RW sum, the active length the sum of all."
         let rw_part = || entries.iter().filter(|e| !e.info.in_ro);

@@ -51,9 +51,9 @@ fn other_bits_keep_their_content() {
         let (count, rw, ro, loaded) = random_map(&mut random);
         let size = 784 + random.below(40);
         let mut bank = random.bytes(size);
-        for at in 768..784 {
+        for appsel in &mut bank[768..784] {
             if !random.chance(5) {
-                bank[at] = 1 + random.below(count) as u8;
+                *appsel = 1 + random.below(count) as u8;
             }
         }
         for _ in 0..40 {

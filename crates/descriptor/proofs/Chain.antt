@@ -14,6 +14,7 @@ use Rattle.rules.specs.Descriptor.{byteAt, Position, absent, after, positionOf,
 use Rattle.rules.proofs.Basics.Tests.{and₂, and₃, and₄, is-true}
 use Rattle.descriptor.specs.declared.decode.Decoding.{Decoding}
 use Rattle.descriptor.specs.declared.decode.Decoding.the-variants.{Refused as stops}
+use Rattle.descriptor.specs.declared.state.Count.{Count}
 use Rattle.descriptor.specs.Rows.{rowAt}
 use Rattle.descriptor.specs.Decode.{decodingOf, StepIn, reservedBy, standsBy, Standing}
 use Rattle.descriptor.proofs.TableRows.{row, sideNumber, stepTest}
@@ -65,7 +66,7 @@ step-room steps (after n) last least t h =
     let d : n + 5 ≡ least = eqb→eq _ _ x in
     (omega arith, omega arith)
 
-module _ {l : List ℕ} {a : ℕ} {s : List ℕ} {at : ℕ} {st : State} (g : Standing l a s at st) where
+module _ {l : List ℕ} {a : ℕ} {s : List ℕ} {at : ℕ} {c : Count} (g : Standing l a s at c) where
   abbrev id : ℕ
   id = byteAt s at
 

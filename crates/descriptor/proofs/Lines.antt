@@ -1,6 +1,5 @@
 -- The invariant of a walk that writes a line for each entry: the text so far, with the lines of what is left, is the lines of the string.
 use mathlib.Core.Path.{_≡_, refl, ap, _∙_}
-use mathlib.Core.Bool.{Bool}
 use mathlib.Core.List.{List, [], _∷_, _++_, append-nil, append-assoc}
 use Prim.Native.Nat.{ℕ, suc, _+_, _*_, _≤_, _<_}
 use native.Mathlib.Numerals.{add-one}
@@ -13,27 +12,27 @@ use Rattle.rules.specs.declared.Decoded.the-variants.{Entry as decoded, Refused
 use Rattle.rules.specs.declared.Walked.the-variants.{Ended as ended, Refused as stopped}
 use Rattle.rules.specs.declared.Refusal.the-variants.{AtEntry as atEntry}
 use Rattle.rules.specs.Descriptor.{entryAt, decodeAt, limited, entryLimit}
-use Rattle.rules.specs.Load.{next, foldBy, foldOf, onward, gather, entriesFrom, entriesWithin, walkWithin}
+use Rattle.rules.specs.Load.{next, entryNumber, foldBy, foldOf, onward, gather, entriesFrom, entriesWithin, walkWithin}
 use Rattle.rules.specs.MapProgram.{entryLines}
 use Rattle.rules.proofs.Load.Checks.{Passed, decode-passed}
 use Rattle.rules.proofs.Load.Folds.{Folded, begin, turn, done, out, more, done-by, turn-by}
-use Rattle.descriptor.specs.declared.decode.Decoding.the-variants.{Refused as stops}
-use Rattle.descriptor.specs.Decode.{decodingOf}
+use Rattle.descriptor.specs.declared.state.Count.{Count}
+use Rattle.descriptor.specs.Counts.{withCount}
 use Rattle.descriptor.specs.Text.{Put, entryLine, Listing}
 use Rattle.descriptor.proofs.Puts.{put-then, put-most}
 use Rattle.descriptor.proofs.Scan.{Went}
 
-abbrev rest : Bool → ℕ → ℕ → List ℕ → ℕ → State → List Entry
-rest ro a fuel s at st = foldBy limited gather (λ _. []) ro a fuel s at st
+abbrev rest : ℕ → ℕ → List ℕ → ℕ → State → List Entry
+rest a fuel s at st = foldBy limited gather (λ _. []) a fuel s at st
 
-record Lined (ro : Bool) (a : ℕ) (s : List ℕ) (st₀ : State) (at : ℕ) (st : State) (text : List ℕ) : Type 0 where
+record Lined (a : ℕ) (s : List ℕ) (st₀ : State) (at : ℕ) (st : State) (text : List ℕ) : Type 0 where
   fuel : ℕ
   enough : length s ≤ at + fuel
-  same : entryLines (st₀ .number) (entriesFrom ro a s 0 st₀) ≡ text ++ entryLines (st .number) (rest ro a fuel s at st)
+  same : entryLines (entryNumber st₀) (entriesFrom a s 0 st₀) ≡ text ++ entryLines (entryNumber st) (rest a fuel s at st)
 
-lined-begin : (ro : Bool) (a : ℕ) (s : List ℕ) (st : State) → Lined ro a s st 0 st []
+lined-begin : (a : ℕ) (s : List ℕ) (st : State) → Lined a s st 0 st []
 unfolding entriesWithin foldOf
-lined-begin ro a s st = record { fuel = length s; enough = omega arith; same = refl }
+lined-begin a s st = record { fuel = length s; enough = omega arith; same = refl }
 
 none-left : (n : ℕ) (text : List ℕ) (l : List Entry) → l ≡ [] → text ++ entryLines n l ≡ text
 unfolding entryLines
@@ -43,63 +42,59 @@ one-more : (n : ℕ) (text : List ℕ) (e : Entry) (l : List Entry) → text ++ 
 unfolding entryLines
 one-more n text e l = rw add-one (simp append-assoc)
 
-module _ {ro : Bool} {a : ℕ} {s : List ℕ} {st₀ : State} {at : ℕ} {st : State} {text : List ℕ} (r : Lined ro a s st₀ at st text) where
-  lined-end : length s ≤ at → entryLines (st₀ .number) (entriesFrom ro a s 0 st₀) ≡ text
-  lined-end h = r .same ∙ none-left (st .number) text _ (done-by gather (λ _. []) ro a s (r .fuel) at st h)
+module _ {a : ℕ} {s : List ℕ} {st₀ : State} {at : ℕ} {st : State} {text : List ℕ} (r : Lined a s st₀ at st text) where
+  lined-end : length s ≤ at → entryLines (entryNumber st₀) (entriesFrom a s 0 st₀) ≡ text
+  lined-end h = r .same ∙ none-left (entryNumber st) text _ (done-by gather (λ _. []) a s (r .fuel) at st h)
 
   module _ (h : at < length s) where
     -- what is left, by what stands at the place
-    left : (k : ℕ) (d : Decoded) → r .fuel ≡ suc k → decodeAt ro a s at st ≡ d → rest ro a (r .fuel) s at st ≡ gather d st (λ e. rest ro a k s (at + e .length) (next st e))
-    left k d q p = ap (λ f. rest ro a f s at st) q ∙ turn-by gather (λ _. []) ro a s k at st h ∙ ap (λ x. gather x st (λ e. rest ro a k s (at + e .length) (next st e))) p
+    left : (k : ℕ) (d : Decoded) → r .fuel ≡ suc k → decodeAt a s at st ≡ d → rest a (r .fuel) s at st ≡ gather d st (λ e. rest a k s (at + e .length) (next st e))
+    left k d q p = ap (λ f. rest a f s at st) q ∙ turn-by gather (λ _. []) a s k at st h ∙ ap (λ x. gather x st (λ e. rest a k s (at + e .length) (next st e))) p
 
     -- an entry that fails a check ends the lines
-    lined-stop : (n : ℕ) → decodeAt ro a s at st ≡ failed n → entryLines (st₀ .number) (entriesFrom ro a s 0 st₀) ≡ text
+    lined-stop : (n : ℕ) → decodeAt a s at st ≡ failed n → entryLines (entryNumber st₀) (entriesFrom a s 0 st₀) ≡ text
     lined-stop n d =
         let m = more (r .fuel) (length s) at (r .enough) h in
-        r .same ∙ none-left (st .number) text _ (left (m .0) (failed n) (m .1) d)
+        r .same ∙ none-left (entryNumber st) text _ (left (m .0) (failed n) (m .1) d)
 
     -- past an entry, with its line
-    lined-next : (e : Entry) → decodeAt ro a s at st ≡ decoded e → Lined ro a s st₀ (at + e .length) (next st e) (text ++ entryLine (st .number) e)
+    lined-next : (e : Entry) → decodeAt a s at st ≡ decoded e → Lined a s st₀ (at + e .length) (next st e) (text ++ entryLine (entryNumber st) e)
     lined-next e d =
         let m = more (r .fuel) (length s) at (r .enough) h in
-        let p = decode-passed ro a s at st e d in
+        let p = decode-passed a s at st e d in
+        let q : entryNumber (next st e) ≡ entryNumber st + 1 = omega arith in
         record {
           fuel = m .0;
           enough = omega (arith, r .enough, p .long, m .1);
-          same = r .same ∙ ap (λ l. text ++ entryLines (st .number) l) (left (m .0) (decoded e) (m .1) d) ∙ one-more (st .number) text e (rest ro a (m .0) s (at + e .length) (next st e));
+          same = r .same ∙ ap (λ l. text ++ entryLines (entryNumber st) l) (left (m .0) (decoded e) (m .1) d) ∙ rw q (one-more (entryNumber st) text e (rest a (m .0) s (at + e .length) (next st e)));
         }
 
--- what a refusal says of the entry's decode
-pub failed-by : (at : ℕ) (st : State) (d : Decoded) (n : ℕ) → decodingOf at st d ≡ stops n → d ≡ failed n
-failed-by at st (decoded e) n h = let o : _≡_ {A = ℕ} 0 1 = cc in absurd (omega arith)
-failed-by at st (failed k) n h = let o : k ≡ n = cc in ap failed o
-
 -- the buffer holds the text so far: at most 16 bytes for each entry, which takes at least 4 of its string; the walk stands at a place of it
-pub record Writing (ro : Bool) (a : ℕ) (s : List ℕ) (st₀ : State) (at : ℕ) (before : List ℕ) (from : ℕ) (st : State) (place : ℕ) (after : List ℕ) : Type 0 where
+pub record Writing (a : ℕ) (s : List ℕ) (st₀ : State) (at : ℕ) (before : List ℕ) (from : ℕ) (st : State) (place : ℕ) (after : List ℕ) : Type 0 where
   text : List ℕ
-  lined : Lined ro a s st₀ from st text
-  pub folded : Folded onward ended ro a s 0 st₀ from st
+  lined : Lined a s st₀ from st text
+  pub folded : Folded onward ended a s 0 st₀ from st
   pub put : Put (4 * from) at text before place after
   pub inside : from ≤ length s
-  pub first : st .first ≤ entryLimit
+  pub few : st .before ≤ entryLimit
   pub sum : st .sum ≤ 256
 
-pub writing-begin : (ro : Bool) (a : ℕ) (s : List ℕ) (st : State) (at : ℕ) (b : List ℕ) → st .first ≤ entryLimit → st .sum ≤ 256 → Writing ro a s st at b 0 st at b
-writing-begin ro a s st at b n h =
+pub writing-begin : (a : ℕ) (s : List ℕ) (st : State) (at : ℕ) (b : List ℕ) → st .before ≤ entryLimit → st .sum ≤ 256 → Writing a s st at b 0 st at b
+writing-begin a s st at b n h =
     record {
       text = [];
-      lined = lined-begin ro a s st;
-      folded = begin onward ended ro a s 0 st;
+      lined = lined-begin a s st;
+      folded = begin onward ended a s 0 st;
       put = record { next = omega arith; room = omega arith; bytes = refl };
       inside = omega arith;
-      first = n;
+      few = n;
       sum = h;
     }
 
-module _ {ro : Bool} {a : ℕ} {s : List ℕ} {st₀ : State} {at : ℕ} {before : List ℕ} {from : ℕ} {st : State} {place : ℕ} {after : List ℕ}
-    (w : Writing ro a s st₀ at before from st place after) where
+module _ {a : ℕ} {s : List ℕ} {st₀ : State} {at : ℕ} {before : List ℕ} {from : ℕ} {st : State} {place : ℕ} {after : List ℕ}
+    (w : Writing a s st₀ at before from st place after) where
   -- no byte is left
-  pub writing-end : length s ≤ from → Listing ro a s st₀ at before place st after
+  pub writing-end : length s ≤ from → Listing a s st₀ at before place st after
   unfolding walkWithin
   writing-end h =
       record {
@@ -109,13 +104,13 @@ module _ {ro : Bool} {a : ℕ} {s : List ℕ} {st₀ : State} {at : ℕ} {before
 
   module _ (h : from < length s) where
     -- an entry that fails a check
-    pub writing-stop : (n : ℕ) → decodeAt ro a s from st ≡ failed n → Listing ro a s st₀ at before place st after
+    pub writing-stop : (n : ℕ) → decodeAt a s from st ≡ failed n → Listing a s st₀ at before place st after
     unfolding walkWithin
     writing-stop n d =
         record {
           put = rw (lined-stop (w .lined) h n d) (put-most (4 * length s) (omega (arith, w .inside)) (w .put));
           ends = λ e q.
-              let o = out (w .folded) h (stopped (atEntry n (st .number))) (λ k. rw d refl) ∙ q in
+              let o = out (w .folded) h (stopped (atEntry n (entryNumber st))) (λ k. rw d refl) ∙ q in
               let z : _≡_ {A = ℕ} 0 1 = cc in
               absurd (omega arith);
         }
@@ -123,22 +118,22 @@ module _ {ro : Bool} {a : ℕ} {s : List ℕ} {st₀ : State} {at : ℕ} {before
     -- past an entry, whose line is written
     pub writing-next :
         1 ≤ a
-        → {to : ℕ} {kept : State}
-        → Went from st (decodeAt ro a s from st) to kept
+        → {to : ℕ} {kept : Count}
+        → Went from st (decodeAt a s from st) to kept
         → {place′ : ℕ} {after′ : List ℕ}
-        → Put 16 place (entryLine (st .number) (entryAt a s from (st .sum))) after place′ after′
-        → Writing ro a s st₀ at before to kept place′ after′
+        → Put 16 place (entryLine (entryNumber st) (entryAt a s from (st .sum))) after place′ after′
+        → Writing a s st₀ at before to (withCount st kept) place′ after′
     writing-next low g p =
         let e = g .e in
         let d = g .decodes in
-        let k : Passed ro a s from st e = decode-passed ro a s from st e d in
+        let k : Passed a s from st e = decode-passed a s from st e d in
         rw (g .to, g .keeps)
         (record {
-          text = w .text ++ entryLine (st .number) e;
+          text = w .text ++ entryLine (entryNumber st) e;
           lined = lined-next (w .lined) h e d;
           folded = turn (w .folded) h e d (λ _. refl);
           put = rw (k .entry) (put-most (4 * (from + entryAt a s from (st .sum) .length)) (omega (arith, rw (k .entry) at (k .long))) (put-then (w .put) p));
           inside = omega (arith, k .within);
-          first = w .first;
+          few = w .few;
           sum = k .sum;
         })

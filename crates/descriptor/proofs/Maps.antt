@@ -1,6 +1,5 @@
 -- The map of strings that load: what its two walks end with, and the text as a whole.
 use mathlib.Core.Path.{_≡_, sym, ap, _∙_}
-use mathlib.Core.Bool.{true, false}
 use mathlib.Core.List.{List}
 use Prim.Native.Nat.{ℕ, _+_, _-_, _≤_}
 use native.Mathlib.Omega.{arith}
@@ -16,7 +15,7 @@ use Rattle.rules.specs.Load.{start, intoRO, walkOf, sized, loadOf, entriesOf}
 use Rattle.rules.specs.Demands.{Accepted}
 use Rattle.rules.specs.MapProgram.{rwSize, roSize, rwBytes, roBytes, heading, endLine, refusedLine, mapText, mapOutput}
 use Rattle.rules.proofs.Basics.Tests.{and₄, is-true}
-use Rattle.rules.proofs.Load.Walks.{Map-accepted, load-accepted, walk-counts}
+use Rattle.rules.proofs.Load.Walks.{Map-accepted, load-accepted, walk-listed, walk-counts}
 use Rattle.rules.proofs.Program.Lines.{lines-both}
 use Rattle.rules.proofs.Program.MapInput.{map-short, map-whole}
 use Rattle.descriptor.specs.Text.{Put, Printed, Listing}
@@ -29,7 +28,7 @@ pub record Sizes (first last : List ℕ) : Type 0 where
 
 -- the state at the end of the RW string
 pub record Middle (st : State) : Type 0 where
-  pub number : st .number ≤ entryLimit
+  pub few : st .entries ≤ entryLimit
   pub sum : st .sum ≤ 256
 
 module _ (count : ℕ) (first last : List ℕ) (ok : Accepted count first last) where
@@ -41,24 +40,27 @@ module _ (count : ℕ) (first last : List ℕ) (ok : Accepted count first last) 
       let (x, y, z, w) = and₄ (leb 1 count) (leb count 15) (leb (length first) 120) (leb (length last) 120) (loaded .sized) in
       record { rw = leb→le (length first) 120 z; ro = leb→le (length last) 120 w }
 
-  module _ {at₁ r₁ : ℕ} {b₁ b₂ : List ℕ} {m : State} (one : Listing false (maskBytes count) first start at₁ b₁ r₁ m b₂) where
-    to-middle : walkOf false (maskBytes count) first 0 start ≡ ended m
+  module _ {at₁ r₁ : ℕ} {b₁ b₂ : List ℕ} {m : State} (one : Listing (maskBytes count) first start at₁ b₁ r₁ m b₂) where
+    to-middle : walkOf (maskBytes count) first 0 start ≡ ended m
     to-middle = loaded .rw-ends ∙ ap ended (sym (one .ends (loaded .middle) (loaded .rw-ends)))
 
     pub middle : Middle m
     middle =
-        let (x, y, z) = walk-counts false (maskBytes count) first 0 start m (omega arith) to-middle in
-        record { number = y; sum = z }
+        let (x, y) = walk-counts (maskBytes count) first 0 start m (omega arith) (omega arith) to-middle in
+        record { few = x; sum = y }
 
-    module _ {r₂ : ℕ} {b₃ : List ℕ} {e : State} (two : Listing true (maskBytes count) last (intoRO m) r₁ b₂ r₂ e b₃) where
-      to-end : walkOf true (maskBytes count) last 0 (intoRO m) ≡ ended e
+    module _ {r₂ : ℕ} {b₃ : List ℕ} {e : State} (two : Listing (maskBytes count) last (intoRO m) r₁ b₂ r₂ e b₃) where
+      to-end : walkOf (maskBytes count) last 0 (intoRO m) ≡ ended e
       to-end =
           let q : loaded .middle ≡ m = sym (one .ends (loaded .middle) (loaded .rw-ends)) in
-          let w : walkOf true (maskBytes count) last 0 (intoRO m) ≡ ended (loaded .end) = rw q at (loaded .ro-ends) in
+          let w : walkOf (maskBytes count) last 0 (intoRO m) ≡ ended (loaded .end) = rw q at (loaded .ro-ends) in
           w ∙ ap ended (sym (two .ends (loaded .end) w))
 
       pub end-sum : e .sum ≤ 256
-      end-sum = walk-counts true (maskBytes count) last 0 m e (middle .sum) to-end .2
+      end-sum = walk-counts (maskBytes count) last 0 (intoRO m) e (omega arith) (middle .sum) to-end .1
+
+      staged-is : e .staged ≡ m .sum
+      staged-is = walk-listed (maskBytes count) last e 0 (intoRO m) (middle .sum) to-end .staged
 
       -- heading, both strings' lines and end, one after the other
       pub map-printed :
@@ -69,7 +71,7 @@ module _ (count : ℕ) (first last : List ℕ) (ok : Accepted count first last) 
           → Printed (mapText (loadOf count first last) (entriesOf count first last)) b₀ r b₄
       map-printed size head end =
           rw
-          (both-load count first last (is-true (sized count first last) (loaded .sized)) m e to-middle to-end, lines-both count first last m to-middle)
+          (both-load count first last (is-true (sized count first last) (loaded .sized)) m e to-middle to-end, lines-both count first last m to-middle, staged-is)
           (printed (omega (arith, sizes .rw, sizes .ro)) size (put-then head (put-then (put-then (one .put) (two .put)) end)))
 
 -- what is printed for an input: n is its RW size and k its RO size

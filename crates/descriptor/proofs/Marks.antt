@@ -62,15 +62,15 @@ good-later from (e ∷ l) r g = let q : from + (e .memory + total l) ≡ from + 
 same-mark : {x y u v : ℕ} → x ≡ u → y ≡ v → _≡_ {A = Mark} (record { at = x; sum = y }) (record { at = u; sum = v })
 same-mark p q = rw (p, q) refl
 
-module _ (ro : Bool) (a : ℕ) (s : List ℕ) (sum : ℕ) (l : List Entry) (filled : Filled ro a s 0 l) (good : Good sum l) where
+module _ (a : ℕ) (s : List ℕ) (sum : ℕ) (l : List Entry) (filled : Filled a s 0 l) (good : Good sum l) where
   -- Lengths and MemoryLengths are passed
   after : (n : ℕ) → n ≤ length l → markAfter a s sum n ≡ record { at = lengths (take n l); sum = sum + total (take n l) }
   unfolding markAfter total
   after zero h = same-mark refl (omega arith)
   after (suc n) h =
       let e : Entry = getD l n nothing in
-      let w = filled-head ro a s l n filled h in
-      let b : e .start ≡ lengths (take n l) = stands-start ro a s (filled-nth ro a s l n filled h) in
+      let w = filled-head a s l n filled h in
+      let b : e .start ≡ lengths (take n l) = stands-start a s (filled-nth a s l n filled h) in
       let p : e .length ≡ byteAt s (lengths (take n l) + 1) = rw b at (ap (λ x. x .length) (w .says)) in
       let q : e .memory ≡ byteAt s (lengths (take n l) + 2 + a) = rw b at (ap (λ x. x .memory) (w .says)) in
       rw (after n (omega arith)) (same-mark (omega (arith, lengths-next l n h)) (omega (arith, total-next l n h)))
@@ -78,16 +78,16 @@ module _ (ro : Bool) (a : ℕ) (s : List ℕ) (sum : ℕ) (l : List Entry) (fill
   stands-at : (n : ℕ) → n < length l → markAfter a s sum n ≡ markOf (getD l n nothing)
   stands-at n h =
       after n (omega arith)
-      ∙ same-mark (sym (stands-start ro a s (filled-nth ro a s l n filled h))) (sym (good-offset sum l n good h))
+      ∙ same-mark (sym (stands-start a s (filled-nth a s l n filled h))) (sym (good-offset sum l n good h))
 
   filled-marked : a ≤ 2 → length s ≤ 120 → Marked a s sum l
   filled-marked mask short =
       record {
         mask = mask;
-        heads = λ n h. filled-head ro a s l n filled h;
+        heads = λ n h. filled-head a s l n filled h;
         stands = stands-at;
         on = λ n h.
-            let w = filled-head ro a s l n filled h in
+            let w = filled-head a s l n filled h in
             let top = good-most sum l n good in
             rw (stands-at n h)
             (record { inside = w .room; place = omega (arith, w .room); space = omega (arith, good-offset sum l n good h) });
@@ -111,9 +111,9 @@ pub marked :
     → Marked (maskBytes count) (cond inRO ro rw) (cond inRO (total (rwEntries count rw)) 0) (cond inRO (roEntries count rw ro) (rwEntries count rw))
 marked count first last ok false =
     let m = load-accepted count first last _ _ _ _ (ok .loads) in
-    filled-marked false (maskBytes count) first 0 (rwEntries count first) (rw-filled count first last ok) (m .rw-good) (mask-top count) (strings-short count first last ok .0)
+    filled-marked (maskBytes count) first 0 (rwEntries count first) (rw-filled count first last ok) (m .rw-good) (mask-top count) (strings-short count first last ok .0)
 marked count first last ok true =
-    filled-marked true (maskBytes count) last (total (rwEntries count first)) (roEntries count first last) (ro-filled count first last ok) (ro-good count first last ok) (mask-top count) (strings-short count first last ok .1)
+    filled-marked (maskBytes count) last (total (rwEntries count first)) (roEntries count first last) (ro-filled count first last ok) (ro-good count first last ok) (mask-top count) (strings-short count first last ok .1)
 
 -- the same in the numbers that an accepted load answers, and of the map's entries: entry i of a string is the map's entry i, or n + i in the RO string
 module _ (count : ℕ) (first last : List ℕ) (n k c t : ℕ) (h : loadOf count first last ≡ accepted n k c t) where

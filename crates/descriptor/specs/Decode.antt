@@ -2,7 +2,7 @@
 use mathlib.Core.Path.{_≡_}
 use mathlib.Core.Bool.{Bool, true, false, _&&_, not}
 use mathlib.Core.List.{List}
-use Prim.Native.Nat.{ℕ, _+_, _-_, _*_, _/_, _%_, _≤_, _<_}
+use Prim.Native.Nat.{ℕ, _+_, _-_, _/_, _%_, _≤_, _<_}
 use lib.ListN.{length, getD}
 use lib.Dec.{ltb, leb, eqb}
 use Rattle.rules.specs.declared.State.{State}
@@ -12,11 +12,13 @@ use Rattle.rules.specs.Descriptor.{byteAt, reserved, entryLimit}
 use Rattle.rules.specs.Load.{next}
 use Rattle.descriptor.specs.declared.decode.Decoding.{Decoding}
 use Rattle.descriptor.specs.declared.decode.Decoding.the-variants.{Past as past, Refused as stops}
+use Rattle.descriptor.specs.declared.state.Count.{Count}
 use Rattle.descriptor.specs.Rows.{classes, rows, rowAt}
+use Rattle.descriptor.specs.Counts.{countOf, Small}
 
 -- what a walk makes of a decode
 abbrev pub decodingOf : ℕ → State → Decoded → Decoding
-decodingOf at st (decoded e) = past (at + e .length) (next st e)
+decodingOf at st (decoded e) = past (at + e .length) (countOf (next st e))
 decodingOf at st (failed n) = stops n
 
 -- the step of an entry is in the string, if the row of its ID has one
@@ -39,22 +41,21 @@ abbrev pub lateBy : ℕ → Bool → Bool → Bool
 lateBy id media passed = leb 2 id && (leb id 8 && (not media && passed))
 
 -- a place of a string at which an entry is decoded
-pub record Walking (table : List ℕ) (rowTable : List (List ℕ)) (a : ℕ) (s : List ℕ) (at : ℕ) (st : State) : Type 0 where
+pub record Walking (table : List ℕ) (rowTable : List (List ℕ)) (a : ℕ) (s : List ℕ) (at : ℕ) (c : Count) : Type 0 where
   pub classes-is : table ≡ classes
   pub table-is : rowTable ≡ rows
   pub mask-low : 1 ≤ a
   pub mask-top : a ≤ 2
   pub inside : at < length s
   pub short : length s ≤ 120
-  pub first : st .first ≤ entryLimit
-  pub sum : st .sum ≤ 256
+  pub small : Small c
 
 -- the same past 16, 1 and 2, with the row of the entry's ID
-pub record Standing (row : List ℕ) (a : ℕ) (s : List ℕ) (at : ℕ) (st : State) : Type 0 where
+pub record Standing (row : List ℕ) (a : ℕ) (s : List ℕ) (at : ℕ) (c : Count) : Type 0 where
   pub row-is : row ≡ rowAt (byteAt s at)
   pub mask-low : 1 ≤ a
   pub mask-top : a ≤ 2
   pub room : at + getD row 0 0 + a ≤ length s
   pub short : length s ≤ 120
-  pub number : st .number < 2 * entryLimit
-  pub sum : st .sum ≤ 256
+  pub few : c .entries < entryLimit
+  pub small : Small c

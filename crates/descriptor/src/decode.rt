@@ -1,22 +1,23 @@
 // One entry of a walk: its checks, 16 and 1 to 7, once for every walk.
 ghost use mathlib.Core.Path.{_≡_};
-ghost use Prim.Native.Nat.{_<_, _+_, _*_};
+ghost use Prim.Native.Nat.{_<_, _+_};
 ghost use lib.ListN.{length};
 ghost use lib.Dec.{ltb};
 ghost use Rattle.rules.specs.Descriptor.{byteAt, mediaSide, entryAt, contentChecks, entryLimit, unlimited, decodeWithin, decodeAt};
 ghost use Rattle.descriptor.specs.Decode.{decodingOf, StepIn, reservedBy, standsBy, lateBy, Walking, Standing};
+ghost use Rattle.descriptor.specs.Counts.{alone};
 use crate::rows::class_of;
+use crate::state::Count;
 use crate::state::next;
 use crate::table::LAST_STEP;
 use crate::table::LEAST;
 use crate::table::NEEDED;
 use crate::table::SIDE;
 use rules::ENTRY_LIMIT;
-use rules::State;
 
-// Past an entry, with the place and the state after it, or the number of the first check that it fails.
+// Past an entry, with the place and the counts after it, or the number of the first check that it fails.
 pub enum Decoding {
-    Past(usize, State),
+    Past(usize, Count),
     Refused(usize),
 }
 
@@ -75,9 +76,9 @@ fn late_host(id: u8, media: bool, passed: bool) -> bool
 }
 
 // 3 to 7, for the entry at a place, with the row of its ID.
-fn content(row: [u8; 4], in_ro: bool, a: usize, s: &[u8], at: usize, st: State) -> Decoding
-    requires { ⌜ Standing row a (now s) at st ⌝ }
-    ensures { λ r. ⌜ r ≡ decodingOf at st (contentChecks in_ro st (entryAt a (now (s .entry)) at (st .sum))) ⌝ }
+fn content(row: [u8; 4], in_ro: bool, a: usize, s: &[u8], at: usize, c: Count) -> Decoding
+    requires { ⌜ Standing row a (now s) at c ⌝ }
+    ensures { λ r. ⌜ r ≡ decodingOf at (alone in_ro c) (contentChecks (alone in_ro c) (entryAt a (now (s .entry)) at (c .sum))) ⌝ }
 {
     if !stands(row[SIDE], in_ro) {
         return Decoding::Refused(3);
@@ -90,13 +91,13 @@ fn content(row: [u8; 4], in_ro: bool, a: usize, s: &[u8], at: usize, st: State) 
         return Decoding::Refused(5);
     }
     let media = media_at(row[LEAST], s, at + 3 + a);
-    if late_host(s[at], media, st.media) {
+    if late_host(s[at], media, c.media) {
         return Decoding::Refused(6);
     }
-    if 256 < st.sum + memory {
+    if 256 < c.sum + memory {
         return Decoding::Refused(7);
     }
-    Decoding::Past(at + (s[at + 1] as usize), next(st, memory, media))
+    Decoding::Past(at + (s[at + 1] as usize), next(c, memory, media))
 }
 
 // The entry at a place, whatever stands before it: 1 and 2, then 3 to 7.
@@ -107,11 +108,11 @@ fn checked(
     a: usize,
     s: &[u8],
     at: usize,
-    st: State,
+    c: Count,
 ) -> Decoding
-    requires { ⌜ Walking (now classes) (now rows) a (now s) at st ⌝ }
-    requires { ⌜ st .number < 2 * entryLimit ⌝ }
-    ensures { λ r. ⌜ r ≡ decodingOf at st (decodeWithin unlimited in_ro a (now (s .entry)) at st) ⌝ }
+    requires { ⌜ Walking (now classes) (now rows) a (now s) at c ⌝ }
+    requires { ⌜ c .entries < entryLimit ⌝ }
+    ensures { λ r. ⌜ r ≡ decodingOf at (alone in_ro c) (decodeWithin unlimited a (now (s .entry)) at (alone in_ro c)) ⌝ }
 {
     if at + 1 == s.len() {
         return Decoding::Refused(1);
@@ -124,7 +125,7 @@ fn checked(
     if length < (row[LEAST] as usize) + a {
         return Decoding::Refused(2);
     }
-    content(row, in_ro, a, s, at, st)
+    content(row, in_ro, a, s, at, c)
 }
 
 // The entry at a place: 16, then 1 to 7.
@@ -135,13 +136,13 @@ pub fn decode(
     a: usize,
     s: &[u8],
     at: usize,
-    st: State,
+    c: Count,
 ) -> Decoding
-    requires { ⌜ Walking (now classes) (now rows) a (now s) at st ⌝ }
-    ensures { λ r. ⌜ r ≡ decodingOf at st (decodeAt in_ro a (now (s .entry)) at st) ⌝ }
+    requires { ⌜ Walking (now classes) (now rows) a (now s) at c ⌝ }
+    ensures { λ r. ⌜ r ≡ decodingOf at (alone in_ro c) (decodeAt a (now (s .entry)) at (alone in_ro c)) ⌝ }
 {
-    if st.first + ENTRY_LIMIT <= st.number {
+    if ENTRY_LIMIT <= c.entries {
         return Decoding::Refused(16);
     }
-    checked(classes, rows, in_ro, a, s, at, st)
+    checked(classes, rows, in_ro, a, s, at, c)
 }

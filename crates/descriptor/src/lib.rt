@@ -5,7 +5,7 @@ ghost use Prim.Native.Nat.{_+_, _≤_};
 ghost use lib.ListN.{length, drop};
 ghost use Rattle.rules.specs.Parameter.{rowOf};
 ghost use Rattle.rules.specs.Descriptor.{maskBytes};
-ghost use Rattle.rules.specs.Load.{sized, loadOf, rwEntries};
+ghost use Rattle.rules.specs.Load.{sized, loadOf, resumeOf, passOf, rwEntries};
 ghost use Rattle.rules.specs.MapProgram.{mapOutput};
 ghost use Rattle.rules.specs.Beside.{entryAnswer, entryBytes};
 ghost use Rattle.descriptor.specs.Locate.{locatedOf};
@@ -18,7 +18,7 @@ mod table; // the table of IDs
 mod rows; // the class of an ID
 mod state; // what a walk keeps
 mod decode; // one entry: its checks
-mod walk; // one string
+mod walk; // the walk of the strings
 mod reading; // one entry: what a call needs of it
 mod search; // an entry by its number, and by a byte of its space
 mod text; // the map program's text
@@ -37,14 +37,18 @@ use crate::table::ROWS;
 use crate::table::SHAPES;
 use crate::text::put_refused;
 use crate::text::put_strings;
+use crate::walk::Counted;
+use crate::walk::Entered;
 use crate::walk::in_limits;
-use crate::walk::refused;
+use crate::walk::pass_in;
 use crate::walk::scan;
+use crate::walk::to_ro;
 use rules::Answer;
 use rules::ENTRY_LIMIT;
 use rules::Loaded;
+use rules::Passed;
 use rules::Refusal;
-use rules::Walked;
+use rules::State;
 
 // Where an entry stands: in which string, its start and length there, and its offset in a set.
 pub enum Located {
@@ -68,26 +72,53 @@ pub fn limits(count: usize, rw: &[u8], ro: &[u8]) -> bool
 pub fn load(count: usize, rw: &[u8], ro: &[u8]) -> Loaded
     ensures { λ r. ⌜ r ≡ loadOf count (now (rw .entry)) (now (ro .entry)) ⌝ }
 {
+    resume(count, rw, ro, start())
+}
+
+// The load taken up again: given what it kept after an entry, and the bytes not yet read, it answers what the load answers. In the RW string
+// these are its rest and the RO string; in the RO string, whose rest they are, `rw` isn't read.
+pub fn resume(count: usize, rw: &[u8], ro: &[u8], st: State) -> Loaded
+    ensures { λ r. ⌜ r ≡ resumeOf count st (now (rw .entry)) (now (ro .entry)) ⌝ }
+{
     if !in_limits(count, rw, ro) {
         return Loaded::Refused(Refusal::Plain(9));
     }
     let a = mask_bytes(count);
     let classes = CLASSES;
     let rows = ROWS;
-    let first = scan(&classes, &rows, false, a, rw, 0, start());
-    let Walked::Ended(m) = first else {
-        return refused(first);
-    };
-    let last = scan(&classes, &rows, true, a, ro, 0, into_ro(m));
-    let Walked::Ended(e) = last else {
-        return refused(last);
-    };
-    Loaded::Accepted {
-        rw_count: m.number,
-        ro_count: e.number - m.number,
-        staged_length: m.sum,
-        active_length: e.sum,
+    let first = to_ro(&classes, &rows, a, rw, st);
+    match first {
+        Entered::Refused(n, entry) => Loaded::Refused(Refusal::AtEntry(n, entry)),
+        Entered::At(before, staged, begin) => {
+            let last = scan(&classes, &rows, true, a, ro, false, begin);
+            match last {
+                Counted::Refused(n, k) => Loaded::Refused(Refusal::AtEntry(n, before + k)),
+                Counted::Ended(end) => Loaded::Accepted {
+                    rw_count: before,
+                    ro_count: end.entries,
+                    staged_length: staged,
+                    active_length: end.sum,
+                },
+            }
+        }
     }
+}
+
+// One entry of a load that is made entry by entry, so that it can be broken off after it.
+pub fn pass(count: usize, rw: &[u8], ro: &[u8], st: State) -> Passed
+    ensures { λ r. ⌜ r ≡ passOf count st (now (rw .entry)) (now (ro .entry)) ⌝ }
+{
+    if !in_limits(count, rw, ro) {
+        return Passed::Refused(Refusal::Plain(9));
+    }
+    let a = mask_bytes(count);
+    if st.ro {
+        return pass_in(a, ro, st);
+    }
+    if 0 < rw.len() {
+        return pass_in(a, rw, st);
+    }
+    pass_in(a, ro, into_ro(st))
 }
 
 // Where the entry of a number stands, or the refusal of the entry call.

@@ -4,8 +4,8 @@ ghost use mathlib.Core.List.{_∷_, []};
 ghost use Prim.Native.Nat.{_+_, _*_, _≤_, _<_};
 ghost use lib.ListN.{length};
 ghost use Rattle.rules.specs.Words.{numberOf};
-ghost use Rattle.rules.specs.Descriptor.{entryAt};
-ghost use Rattle.rules.specs.Load.{loadOf, entriesOf};
+ghost use Rattle.rules.specs.Descriptor.{entryAt, entryLimit};
+ghost use Rattle.rules.specs.Load.{entryNumber, loadOf, entriesOf};
 ghost use Rattle.rules.specs.Demands.{Accepted};
 ghost use Rattle.rules.specs.MapProgram.{decimal, endLine, refusedLine, mapText};
 ghost use Rattle.descriptor.specs.Walks.{Ready};
@@ -14,6 +14,9 @@ use crate::decode::Decoding;
 use crate::decode::decode;
 use crate::load;
 use crate::mask_bytes;
+use crate::state::count_of;
+use crate::state::counting;
+use crate::state::entry_number;
 use crate::state::into_ro;
 use crate::state::start;
 use crate::table::CLASSES;
@@ -88,11 +91,11 @@ fn put_spaced(out: &mut [u8; 1024], at: usize, n: usize) -> usize
 fn put_entry(out: &mut [u8; 1024], at: usize, a: usize, s: &[u8], from: usize, st: State) -> usize
     requires { ⌜ Printable a (now s) from st ⌝ }
     requires { ⌜ at + 16 ≤ 1024 ⌝ }
-    ensures { λ r. ⌜ Put 16 at (entryLine (st .number) (entryAt a (now (s .entry)) from (st .sum))) (now (out .entry)) r (now (out .exit)) ⌝ }
+    ensures { λ r. ⌜ Put 16 at (entryLine (entryNumber st) (entryAt a (now (s .entry)) from (st .sum))) (now (out .entry)) r (now (out .exit)) ⌝ }
 {
-    let number = put_decimal(out, at, st.number);
+    let number = put_decimal(out, at, entry_number(st));
     let id = put_spaced(out, number, s[from] as usize);
-    let offset = put_spaced(out, id, st.sum);
+    let offset = put_spaced(out, id, st.sum as usize);
     let memory = put_spaced(out, offset, s[from + 2 + a] as usize);
     put_byte(out, memory, b'\n')
 }
@@ -101,28 +104,28 @@ fn put_entry(out: &mut [u8; 1024], at: usize, a: usize, s: &[u8], from: usize, s
 fn put_entries(
     classes: &[u8; 19],
     rows: &[[u8; 4]; 11],
-    in_ro: bool,
     a: usize,
     s: &[u8],
     begin: State,
     out: &mut [u8; 1024],
     at: usize,
 ) -> Listed
-    requires { ⌜ Ready (now classes) (now rows) a (now s) begin ⌝ }
+    requires { ⌜ Ready (now classes) (now rows) a (now s) ⌝ }
+    requires { ⌜ (begin .before ≤ entryLimit) × (begin .sum ≤ 256) ⌝ }
     requires { ⌜ at + 4 * length (now s) ≤ 1024 ⌝ }
-    ensures { λ r. ⌜ Listing in_ro a (now (s .entry)) begin at (now (out .entry)) (r .at) (r .end) (now (out .exit)) ⌝ }
+    ensures { λ r. ⌜ Listing a (now (s .entry)) begin at (now (out .entry)) (r .at) (r .end) (now (out .exit)) ⌝ }
 {
     let mut from = 0;
     let mut st = begin;
     let mut line = at;
     while from < s.len() {
-        let d = decode(classes, rows, in_ro, a, s, from, st);
+        let d = decode(classes, rows, st.ro, a, s, from, count_of(st));
         let Decoding::Past(place, after) = d else {
             return Listed { at: line, end: st };
         };
         line = put_entry(out, line, a, s, from, st);
         from = place;
-        st = after;
+        st = counting(st, after);
     }
     Listed { at: line, end: st }
 }
@@ -168,11 +171,11 @@ fn put_map(count: usize, rw: &[u8], ro: &[u8], out: &mut [u8; 1024]) -> usize
     let rows = ROWS;
     let a = mask_bytes(count);
     let head = put_text(out, 0, b"entry id offset length\n");
-    let one = put_entries(&classes, &rows, false, a, rw, start(), out, head);
+    let one = put_entries(&classes, &rows, a, rw, start(), out, head);
     let m = one.end;
-    let two = put_entries(&classes, &rows, true, a, ro, into_ro(m), out, one.at);
+    let two = put_entries(&classes, &rows, a, ro, into_ro(m), out, one.at);
     let e = two.end;
-    put_end(out, two.at, m.sum, e.sum)
+    put_end(out, two.at, m.sum as usize, e.sum as usize)
 }
 
 // The map of both strings, or their refusal.

@@ -1,10 +1,11 @@
 -- The demands of document 01, what 02 says of its notes, and where each is proved. Open this file first; the statements are in specs/Demands.antt.
-use Rattle.rules.specs.Demands.{Demand1, Demand2, Demand3, Demand3-after-fresh, Note7, Twelve}
+use Rattle.rules.specs.Demands.{Demand1, Demand2, Demand3, Demand3-after-fresh, Note7, Note8, Twelve}
 use Rattle.rules.proofs.Refusals.AllRefusals.{refusals}
 use Rattle.rules.proofs.Place.PlaceOwner.{both-ways}
 use Rattle.rules.proofs.Lists.Lists.{lists-agree}
 use Rattle.rules.proofs.Lists.Fresh.{lists-agree-after-fresh}
 use Rattle.rules.proofs.Load.Limits.{as-before}
+use Rattle.rules.proofs.Load.TakenUp.{taken-up}
 use Rattle.rules.proofs.Worked.Settings.{settings}
 
 -- a call is refused exactly by the first rule of 01's order that applies, and then changes no byte
@@ -25,6 +26,10 @@ demand3-after-fresh = lists-agree-after-fresh
 -- strings of at most 16 entries each are read, and every call on them made, as without the limit of note 7
 pub note7 : Note7
 note7 = as-before
+
+-- a load broken off after any entry and taken up again is the load
+pub note8 : Note8
+note8 = taken-up
 
 -- P1 to P12
 pub twelve : Twelve

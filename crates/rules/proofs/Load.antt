@@ -9,3 +9,7 @@ pub mod EntryBytes
 pub mod LoadNumber
 pub mod Limits
 pub mod ReaderWalk
+pub mod Rests
+pub mod Resumes
+pub mod Pieces
+pub mod TakenUp

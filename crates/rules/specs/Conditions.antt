@@ -10,7 +10,7 @@ use lib.Dec.{T}
 use Rattle.rules.specs.Words.{Refusal, plain, atEntry, atLane, Entry, decoded, failed, State, Call, select, write, read, byteWrite, byteRead, publish, apply}
 use Rattle.rules.specs.Numbers.{bitOf}
 use Rattle.rules.specs.Descriptor.{maskBytes, byteAt, decodeAt}
-use Rattle.rules.specs.Load.{start, next, intoRO, Map}
+use Rattle.rules.specs.Load.{start, next, intoRO, entryNumber, Map}
 use Rattle.rules.specs.Place.{entry, partsOf, lengthOf}
 use Rattle.rules.specs.Layout.{bankSize}
 use Rattle.rules.specs.Bank.{Bank, appSelIn, numberIn}
@@ -41,16 +41,16 @@ abbrev pub MediaSide : ℕ → List ℕ → ℕ → Type 0
 MediaSide a s at = InTable (byteAt s at) × (byteAt s (at + 3 + a) % 2 ≡ 1)
 
 -- an entry at a place of a string, by its bytes, for a walk that keeps a state; `left` is the number of bytes left
-abbrev pub entryRules : Bool → ℕ → List ℕ → ℕ → State → List (Rule ℕ)
-entryRules ro a s at st =
+abbrev pub entryRules : ℕ → List ℕ → ℕ → State → List (Rule ℕ)
+entryRules a s at st =
     let left : ℕ = length s - at in
     let id : ℕ = byteAt s at in
     let size : ℕ = byteAt s (at + 1) in
     let memory : ℕ = byteAt s (at + 2 + a) in
-    gives 16 (st .first + 16 ≤ st .number)
+    gives 16 (16 ≤ st .entries)
     ∷ gives 1 ((left ≡ 1) ⊎ (left < size))
     ∷ gives 2 (BelowLeast a id size)
-    ∷ gives 3 (WrongString ro id)
+    ∷ gives 3 (WrongString (st .ro) id)
     ∷ gives 4 (BelowNeeded id memory)
     ∷ gives 5 (OfLine id (λ c. ReservedStep (c .steps) (c .extras) s (at + 4 + a)))
     ∷ gives 6 ((0x02 ≤ id) × (id ≤ 0x08) × (¬ (MediaSide a s at)) × (st .media ≡ true))
@@ -58,45 +58,45 @@ entryRules ro a s at st =
     ∷ []
 
 -- a walk from a place and a state to others: each entry between them passes
-pub data Way (ro : Bool) (a : ℕ) (s : List ℕ) (to : ℕ) (end : State) : ℕ → State → Type 0 where
-  here : Way ro a s to end to end
+pub data Way (a : ℕ) (s : List ℕ) (to : ℕ) (end : State) : ℕ → State → Type 0 where
+  here : Way a s to end to end
   past : {at : ℕ} {st : State} (e : Entry)
       → at < length s
-      → decodeAt ro a s at st ≡ decoded e
-      → Way ro a s to end (at + e .length) (next st e)
-      → Way ro a s to end at st
+      → decodeAt a s at st ≡ decoded e
+      → Way a s to end (at + e .length) (next st e)
+      → Way a s to end at st
 
 -- "after a media-side table entry": one that the walk goes past
-abbrev pub PastMedia : {ro : Bool} {a : ℕ} {s : List ℕ} {to : ℕ} {end : State} {from : ℕ} {st : State} → Way ro a s to end from st → Type 0
+abbrev pub PastMedia : {a : ℕ} {s : List ℕ} {to : ℕ} {end : State} {from : ℕ} {st : State} → Way a s to end from st → Type 0
 PastMedia here = ⊥
 PastMedia {a} {s} (past {at} e l d w) = MediaSide a s at ⊎ PastMedia w
 
 -- the entries that it goes past
-abbrev pub entriesPast : {ro : Bool} {a : ℕ} {s : List ℕ} {to : ℕ} {end : State} {from : ℕ} {st : State} → Way ro a s to end from st → ℕ
+abbrev pub entriesPast : {a : ℕ} {s : List ℕ} {to : ℕ} {end : State} {from : ℕ} {st : State} → Way a s to end from st → ℕ
 entriesPast here = 0
 entriesPast (past e l d w) = suc (entriesPast w)
 
 -- "The first entry that fails any check ends the load; its entry number is answered too."
-pub record Stops (ro : Bool) (a : ℕ) (s : List ℕ) (from : ℕ) (begin : State) (x : Refusal) : Type 0 where
+pub record Stops (a : ℕ) (s : List ℕ) (from : ℕ) (begin : State) (x : Refusal) : Type 0 where
   pub at : ℕ
   pub st : State
-  pub way : Way ro a s at st from begin
+  pub way : Way a s at st from begin
   pub left : at < length s
   pub number : ℕ
-  pub fails : decodeAt ro a s at st ≡ failed number
-  pub says : x ≡ atEntry number (st .number)
+  pub fails : decodeAt a s at st ≡ failed number
+  pub says : x ≡ atEntry number (entryNumber st)
 
 -- no byte is left
-pub record Ends (ro : Bool) (a : ℕ) (s : List ℕ) (from : ℕ) (begin end : State) : Type 0 where
+pub record Ends (a : ℕ) (s : List ℕ) (from : ℕ) (begin end : State) : Type 0 where
   pub at : ℕ
-  pub way : Way ro a s at end from begin
+  pub way : Way a s at end from begin
   pub none : length s ≤ at
 
 -- "RW first, RO after"
 abbrev pub stringsRule : ℕ → List ℕ → List ℕ → Rule Refusal
 stringsRule count rw ro x =
-    Stops false (maskBytes count) rw 0 start x
-    ⊎ ((middle : State) × Ends false (maskBytes count) rw 0 start middle × Stops true (maskBytes count) ro 0 (intoRO middle) x)
+    Stops (maskBytes count) rw 0 start x
+    ⊎ ((middle : State) × Ends (maskBytes count) rw 0 start middle × Stops (maskBytes count) ro 0 (intoRO middle) x)
 
 -- The caller
 

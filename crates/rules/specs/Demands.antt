@@ -1,16 +1,16 @@
 -- The statements: the three demands, what 02 says of its notes, and the twelve settings. proofs/Demands.antt proves each.
 use mathlib.Core.Path.{_≡_}
 use mathlib.Core.Logic.{_↔_}
-use mathlib.Core.Bool.{Bool, true, false, _||_, cond}
+use mathlib.Core.Bool.{true, false, _||_, cond}
 use mathlib.Core.List.{List, [], _∷_, _++_}
-use Prim.Native.Nat.{ℕ, suc, _+_, _-_, _≤_, _<_}
+use Prim.Native.Nat.{ℕ, zero, suc, _+_, _-_, _≤_, _<_}
 use lib.IntN.{ℤ, pos, negsuc}
 use lib.ListN.{length, getD, take, drop}
 use lib.Dec.{T, eqb}
-use Rattle.rules.specs.Words.{Refusal, plain, atEntry, Entry, decoded, failed, State, ended, accepted, rejected, Call, read, Answer, refused, placedAt, notPlaced, ownedBy, noOwner, notOwned, noMore, notTaken}
+use Rattle.rules.specs.Words.{Refusal, plain, atEntry, atLane, Entry, decoded, failed, State, ended, Loaded, accepted, rejected, Passed, past, passedAll, notPassed, Call, read, Answer, refused, placedAt, notPlaced, ownedBy, noOwner, notOwned, noMore, notTaken}
 use Rattle.rules.specs.Numbers.{cut}
 use Rattle.rules.specs.Descriptor.{maskBytes, hasApp, byteAt, entryAt, unlimited, decodeAt}
-use Rattle.rules.specs.Load.{start, intoRO, Turn, Map, Reading, foldOf, walkWithin, readWithin, readOf, loadOn, loadOf, rwEntries, roEntries, total, mapOf}
+use Rattle.rules.specs.Load.{start, intoRO, entryNumber, Turn, Map, Reading, foldOf, walkWithin, readWithin, readOf, sized, loadOn, loadOf, resumeOf, passOf, rwEntries, roEntries, total, mapOf}
 use Rattle.rules.specs.Place.{nothing, entry, partsOf, widthOf, signedOf, isRW, lengthOf, holds, fieldByte, fieldBit, covers}
 use Rattle.rules.specs.Accept.{accepts, toBits, fromBits, weightOf}
 use Rattle.rules.specs.Layout.{bankSize, HasBytes, setStart}
@@ -34,14 +34,15 @@ pub record Keeps (b after : Bank) (isRefused : Type 0) : Type 0 where
 -- any strings, any count, any bank
 pub record Refusals (count : ℕ) (rw ro : List ℕ) (b : Bank) : Type 0 where
   -- one entry, at any place of a string of any content, at any state: the first check that it fails, in the order 16, 1 to 7
-  pub one-entry : (inRO : Bool) (a : ℕ) (s : List ℕ) (at : ℕ) (st : State) (n : ℕ)
-      → (decodeAt inRO a s at st ≡ failed n) ↔ First (entryRules inRO a s at st) n
+  pub one-entry : (a : ℕ) (s : List ℕ) (at : ℕ) (st : State) (n : ℕ) → (decodeAt a s at st ≡ failed n) ↔ First (entryRules a s at st) n
   -- "after a media-side table entry of the RW string": what the state of a walk says is what the bytes that it went past say
-  pub media : (a : ℕ) (s : List ℕ) (at : ℕ) (st : State) (w : Way false a s at st 0 start) → (st .media ≡ true) ↔ PastMedia w
-  -- "a 17th entry", of either string by itself (the RW string is begun at `start`, which is `intoRO start`), and "its entry number": the
-  -- state of a walk counts the entries that it went past, of which there are at most 16
-  pub numbers : (inRO : Bool) (a : ℕ) (s : List ℕ) (at : ℕ) (st before : State) (w : Way inRO a s at st 0 (intoRO before))
-      → (st .first ≡ before .number) × (st .number ≡ before .number + entriesPast w) × (entriesPast w ≤ 16)
+  pub media : (a : ℕ) (s : List ℕ) (at : ℕ) (st : State) (w : Way a s at st 0 start) → (st .media ≡ true) ↔ PastMedia w
+  -- "a 17th entry", of either string by itself, and "its entry number": the state of a walk counts the entries of its string that it went past,
+  -- of which there are at most 16; the number of the next one counts those of the RW string too. And it says which string this is
+  pub rw-numbers : (a : ℕ) (s : List ℕ) (at : ℕ) (st : State) (w : Way a s at st 0 start)
+      → (st .ro ≡ false) × (st .entries ≡ entriesPast w) × (entryNumber st ≡ entriesPast w) × (entriesPast w ≤ 16)
+  pub ro-numbers : (a : ℕ) (s : List ℕ) (at : ℕ) (st middle : State) (w : Way a s at st 0 (intoRO middle))
+      → (st .ro ≡ true) × (st .entries ≡ entriesPast w) × (entryNumber st ≡ middle .entries + entriesPast w) × (entriesPast w ≤ 16)
   -- the calls of demand 3, fresh, and the calls beside: a refusal is answered exactly if it is the first in 01's order
   pub call : (c : Call) (x : Refusal)
       → (bankCall count rw ro c b .0 ≡ refused x) ↔ First (bankRules count rw ro b (callRules (mapOf count rw ro) c ++ planRules (mapOf count rw ro) c b)) x
@@ -222,15 +223,15 @@ abbrev pub tally : Turn ℕ
 tally (decoded e) st k = suc (k e)
 tally (failed n) st k = 1
 
-abbrev pub comesTo : Bool → ℕ → List ℕ → State → ℕ
-comesTo inRO a s begin = foldOf unlimited tally (λ _. 0) inRO a s 0 begin
+abbrev pub comesTo : ℕ → List ℕ → State → ℕ
+comesTo a s begin = foldOf unlimited tally (λ _. 0) a s 0 begin
 
 -- "two strings of at most 16 entries each": the RO string is read if the RW string's walk ends
 pub record AtMost16 (count : ℕ) (rw ro : List ℕ) : Type 0 where
-  pub in-rw : comesTo false (maskBytes count) rw start ≤ 16
+  pub in-rw : comesTo (maskBytes count) rw start ≤ 16
   pub in-ro : (middle : State)
-      → walkWithin unlimited false (maskBytes count) rw 0 start ≡ ended middle
-      → comesTo true (maskBytes count) ro (intoRO middle) ≤ 16
+      → walkWithin unlimited (maskBytes count) rw 0 start ≡ ended middle
+      → comesTo (maskBytes count) ro (intoRO middle) ≤ 16
 
 -- what is read of the strings without a limit
 abbrev pub readBefore : ℕ → List ℕ → List ℕ → Reading
@@ -257,6 +258,70 @@ pub record AsBefore (count : ℕ) (rw ro : List ℕ) : Type 0 where
 
 abbrev pub Note7 : Type 0
 Note7 = (count : ℕ) (rw ro : List ℕ) → AtMost16 count rw ro → AsBefore count rw ro
+
+-- 02, NOTE 8: "Prove that a load broken off after any entry and taken up again so gives the same answer or refusal."
+
+-- a load broken off: what it "keeps", and "the bytes not yet read"
+pub record Break : Type 0 where
+  pub kept : State
+  pub rw : List ℕ
+  pub ro : List ℕ
+
+abbrev pub resumeAt : ℕ → Break → Loaded
+resumeAt count b = resumeOf count (b .kept) (b .rw) (b .ro)
+
+-- an entry further, whose bytes are read; where none passes, as it was
+abbrev pub leftBy : Break → Passed → Break
+leftBy b (past st n) = cond (st .ro) (record { kept = st; rw = []; ro = drop n (b .ro) }) (record { kept = st; rw = drop n (b .rw); ro = b .ro })
+leftBy b passedAll = b
+leftBy b (notPassed r) = b
+
+unfoldable pub further : ℕ → ℕ → Break → Break
+further count zero b = b
+further count (suc k) b = let at : Break = further count k b in leftBy at (passOf count (at .kept) (at .rw) (at .ro))
+
+-- how many entries a load passes
+abbrev pub passes : Loaded → ℕ
+passes (accepted n k c t) = n + k
+passes (rejected (plain n)) = 0
+passes (rejected (atEntry n e)) = e
+passes (rejected (atLane n i)) = 0
+
+pub record TakenUp (count : ℕ) (rw ro : List ℕ) : Type 0 where
+  -- the load goes on from the beginning
+  pub begins : loadOf count rw ro ≡ resumeOf count start rw ro
+  -- broken off after any entry
+  pub after : (k : ℕ) → resumeAt count (further count k (record { kept = start; rw = rw; ro = ro })) ≡ loadOf count rw ro
+  -- .. which is so many entries after the beginning, up to the last that the load passes
+  pub counts : (k : ℕ) → k ≤ passes (loadOf count rw ro) → entryNumber (further count k (record { kept = start; rw = rw; ro = ro }) .kept) ≡ k
+  -- taken up in any state, with any bytes, and broken off again: so often as one likes
+  pub again : (st : State) (k : ℕ) → resumeAt count (further count k (record { kept = st; rw = rw; ro = ro })) ≡ resumeOf count st rw ro
+  -- of the bytes not yet read, those of the entry itself pass it: the others needn't be there yet
+  pub rw-entry : (n : ℕ) (st : State)
+      → st .ro ≡ false
+      → sized count rw ro ≡ true
+      → 2 ≤ n
+      → byteAt rw 1 ≤ n
+      → n ≤ length rw
+      → passOf count st (take n rw) [] ≡ passOf count st rw ro
+  pub ro-entry : (n : ℕ) (st : State)
+      → st .ro ≡ true
+      → sized count rw ro ≡ true
+      → 2 ≤ n
+      → byteAt ro 1 ≤ n
+      → n ≤ length ro
+      → passOf count st [] (take n ro) ≡ passOf count st rw ro
+  pub first-ro-entry : (n : ℕ) (st : State)
+      → st .ro ≡ false
+      → sized count rw ro ≡ true
+      → length rw ≤ 0
+      → 2 ≤ n
+      → byteAt ro 1 ≤ n
+      → n ≤ length ro
+      → passOf count st [] (take n ro) ≡ passOf count st rw ro
+
+abbrev pub Note8 : Type 0
+Note8 = (count : ℕ) (rw ro : List ℕ) → TakenUp count rw ro
 
 -- the twelve settings, each of any entry that has the ID, offset or code mask named
 pub record Twelve : Type 0 where

@@ -127,9 +127,9 @@ abbrev pub reserved : ℕ × ℕ → ℕ → Bool
 reserved steps n = ltb n (steps .0) || ltb (steps .1) n
 
 -- 3: "ID in the wrong string"; 4: "MemoryLength below the bytes needed"; 5; 6; 7: "the sum of MemoryLengths passes 256"
-unfoldable pub contentChecks : Bool → State → Entry → Decoded
-contentChecks ro st e =
-    refuse (not (mayStand (rowOf (e .id) .side) ro)) 3
+unfoldable pub contentChecks : State → Entry → Decoded
+contentChecks st e =
+    refuse (not (mayStand (rowOf (e .id) .side) (st .ro))) 3
     (refuse (ltb (e .memory) (rowOf (e .id) .needed)) 4
     (refuse (reserved (rowOf (e .id) .steps) (e .step)) 5
     (refuse (lateHost e (st .media)) 6
@@ -151,14 +151,14 @@ limited = upTo entryLimit
 -- 16: "a 17th entry", before which as many as the limit stand in its string
 abbrev pub full : Limit → State → Bool
 full unlimited st = false
-full (upTo n) st = leb (st .first + n) (st .number)
+full (upTo n) st = leb n (st .entries)
 
 -- one entry: what stands at a place of a string, for a walk that keeps a state; 16 is "given before the other checks of that entry"
-unfoldable pub decodeWithin : Limit → Bool → ℕ → List ℕ → ℕ → State → Decoded
-decodeWithin limit ro a s at st =
+unfoldable pub decodeWithin : Limit → ℕ → List ℕ → ℕ → State → Decoded
+decodeWithin limit a s at st =
     refuse (full limit st) 16
     (lengthChecks a (length s - at) (entryAt a s at (st .sum))
-    (contentChecks ro st (entryAt a s at (st .sum))))
+    (contentChecks st (entryAt a s at (st .sum))))
 
-abbrev pub decodeAt : Bool → ℕ → List ℕ → ℕ → State → Decoded
+abbrev pub decodeAt : ℕ → List ℕ → ℕ → State → Decoded
 decodeAt = decodeWithin limited

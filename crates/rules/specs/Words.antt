@@ -10,6 +10,8 @@ pub use Rattle.rules.specs.declared.Walked.{Walked}
 pub use Rattle.rules.specs.declared.Walked.the-variants.{Ended as ended, Refused as stopped}
 pub use Rattle.rules.specs.declared.Loaded.{Loaded}
 pub use Rattle.rules.specs.declared.Loaded.the-variants.{Accepted as accepted, Refused as rejected}
+pub use Rattle.rules.specs.declared.Passed.{Passed}
+pub use Rattle.rules.specs.declared.Passed.the-variants.{Past as past, End as passedAll, Refused as notPassed}
 pub use Rattle.rules.specs.declared.Call.{Call}
 pub use Rattle.rules.specs.declared.Call.the-variants.{Select as select, Write as write, Read as read, ByteWrite as byteWrite, ByteRead as byteRead, Publish as publish, Apply as apply}
 pub use Rattle.rules.specs.declared.Answer.{Answer}

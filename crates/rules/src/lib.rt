@@ -64,13 +64,15 @@ pub enum Decoded {
     Refused(usize),
 }
 
-// What a walk keeps between two entries, beside its place in the string: the number of the next entry, that of the string's first
-// entry, the sum of the MemoryLengths before it, and whether a media-side table entry has been passed.
+// What a walk of the strings keeps after an entry: whether it is in the RO string, whether a media-side table entry has been passed, how many
+// entries of this string have been, how many stand before this string, the sum of all MemoryLengths passed and, in the RO string, the staged length.
 pub struct State {
-    pub number: usize,
-    pub first: usize,
-    pub sum: usize,
+    pub ro: bool,
     pub media: bool,
+    pub entries: u8,
+    pub before: u8,
+    pub sum: u16,
+    pub staged: u16,
 }
 
 // A walk of one string: the state at its end, or the first refusal.
@@ -87,6 +89,13 @@ pub enum Loaded {
         staged_length: usize,
         active_length: usize,
     },
+    Refused(Refusal),
+}
+
+// One entry of a load that is made entry by entry: the state after it and its Length; the end, where no byte is left; or its refusal.
+pub enum Passed {
+    Past(State, usize),
+    End,
     Refused(Refusal),
 }
 

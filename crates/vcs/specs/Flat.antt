@@ -1,8 +1,8 @@
 -- What a flat answer has for each case of an answer: 01's number and values; and which call a flat call is.
-use mathlib.Core.Bool.{cond}
+use mathlib.Core.Bool.{Bool, true, false, cond}
 use lib.IntN.{pos}
 use Prim.Native.Nat.{ℕ}
-use lib.Dec.{eqb}
+use lib.Dec.{ltb, eqb}
 use Rattle.rules.specs.declared.Refusal.{Refusal}
 use Rattle.rules.specs.declared.Refusal.the-variants.{Plain as plain, AtEntry as atEntry, AtLane as atLane}
 use Rattle.rules.specs.declared.Answer.{Answer}
@@ -11,6 +11,9 @@ use Rattle.rules.specs.declared.Call.{Call}
 use Rattle.rules.specs.declared.Call.the-variants.{Select as select, Write as write, Read as read, ByteWrite as byteWrite, ByteRead as byteRead, Publish as publish, Apply as apply}
 use Rattle.rules.specs.declared.Loaded.{Loaded}
 use Rattle.rules.specs.declared.Loaded.the-variants.{Accepted as accepted, Refused as rejected}
+use Rattle.rules.specs.declared.State.{State}
+use Rattle.rules.specs.declared.Passed.{Passed}
+use Rattle.rules.specs.declared.Passed.the-variants.{Past as past, End as passedAll, Refused as notPassed}
 use Rattle.rules.specs.declared.Placed.{Placed}
 use Rattle.rules.specs.declared.Placed.the-variants.{At as placedAt, Refused as notPlaced}
 use Rattle.rules.specs.declared.Owned.{Owned}
@@ -21,6 +24,8 @@ use Rattle.descriptor.specs.declared.Located.{Located}
 use Rattle.descriptor.specs.declared.Located.the-variants.{At as at, Refused as nowhere}
 use Rattle.vcs.specs.declared.Reason.{Reason}
 use Rattle.vcs.specs.declared.FlatLoaded.{FlatLoaded}
+use Rattle.vcs.specs.declared.FlatState.{FlatState}
+use Rattle.vcs.specs.declared.FlatPassed.{FlatPassed}
 use Rattle.vcs.specs.declared.FlatEntry.{FlatEntry}
 use Rattle.vcs.specs.declared.FlatPlaced.{FlatPlaced}
 use Rattle.vcs.specs.declared.FlatOwned.{FlatOwned}
@@ -38,6 +43,26 @@ abbrev pub flatLoaded : Loaded → FlatLoaded
 flatLoaded (accepted n k c t) = record { refusal = 0; at = 0; rwcount = n; rocount = k; staged = c; active = t }
 flatLoaded (rejected r) =
     record { refusal = reasonOf r .number; at = reasonOf r .at; rwcount = 0; rocount = 0; staged = 0; active = 0 }
+
+-- what a load keeps; a flag is any number but 0, and is given as 1
+abbrev pub stateOf : FlatState → State
+stateOf f = record { ro = ltb 0 (f .string); media = ltb 0 (f .media); entries = f .entries; before = f .before; sum = f .sum; staged = f .staged }
+
+abbrev pub flagOf : Bool → ℕ
+flagOf true = 1
+flagOf false = 0
+
+abbrev pub flatState : State → FlatState
+flatState st =
+    record { string = flagOf (st .ro); media = flagOf (st .media); entries = st .entries; before = st .before; sum = st .sum; staged = st .staged }
+
+abbrev pub noState : FlatState
+noState = record { string = 0; media = 0; entries = 0; before = 0; sum = 0; staged = 0 }
+
+abbrev pub flatPassed : Passed → FlatPassed
+flatPassed (past st n) = record { refusal = 0; at = 0; ended = 0; length = n; state = flatState st }
+flatPassed passedAll = record { refusal = 0; at = 0; ended = 1; length = 0; state = noState }
+flatPassed (notPassed r) = record { refusal = reasonOf r .number; at = reasonOf r .at; ended = 0; length = 0; state = noState }
 
 abbrev pub flatEntry : Located → FlatEntry
 flatEntry (at ro s l o) = record { refusal = 0; at = 0; string = cond ro 1 0; start = s; length = l; offset = o }

@@ -1,12 +1,12 @@
 // The C interface (include/vcs.h): thin exports of the calls, with flat answers.
 ghost use mathlib.Core.Path.{_≡_};
-ghost use Rattle.rules.specs.Load.{loadOf};
+ghost use Rattle.rules.specs.Load.{loadOf, resumeOf, passOf};
 ghost use Rattle.rules.specs.declared.Call.{Call};
 ghost use Rattle.rules.specs.Bank.{freshCall, bankCall};
 ghost use Rattle.rules.specs.Beside.{placeOf, ownerCall, weightCall};
 ghost use Rattle.rules.specs.Reader.{takeOf, movedTo};
 ghost use Rattle.descriptor.specs.Locate.{locatedOf};
-ghost use Rattle.vcs.specs.Flat.{reasonOf, flatLoaded, flatEntry, flatPlaced, flatOwned, flatAnswer, flatTaken, callOf};
+ghost use Rattle.vcs.specs.Flat.{reasonOf, flatLoaded, stateOf, flagOf, flatState, noState, flatPassed, flatEntry, flatPlaced, flatOwned, flatAnswer, flatTaken, callOf};
 use control_set::apply;
 use control_set::byte_read;
 use control_set::byte_write;
@@ -20,6 +20,8 @@ use control_set::write;
 use descriptor::Located;
 use descriptor::load;
 use descriptor::locate;
+use descriptor::pass;
+use descriptor::resume;
 use placement::owner;
 use placement::place;
 use reader::take_from;
@@ -27,8 +29,10 @@ use rules::Answer;
 use rules::Call;
 use rules::Loaded;
 use rules::Owned;
+use rules::Passed;
 use rules::Placed;
 use rules::Refusal;
+use rules::State;
 use rules::Taken;
 
 // A refusal: its number, and the entry (1 to 7, 16) or the lane (13, 14) that it names, else 0. Number 0: accepted.
@@ -46,6 +50,27 @@ pub struct FlatLoaded {
     pub rocount: usize,
     pub staged: usize,
     pub active: usize,
+}
+
+// vcs_state
+#[repr(C)]
+pub struct FlatState {
+    pub string: u8,
+    pub media: u8,
+    pub entries: u8,
+    pub before: u8,
+    pub sum: u16,
+    pub staged: u16,
+}
+
+// vcs_passed
+#[repr(C)]
+pub struct FlatPassed {
+    pub refusal: usize,
+    pub at: usize,
+    pub ended: usize,
+    pub length: usize,
+    pub state: FlatState,
 }
 
 // vcs_located
@@ -153,6 +178,57 @@ fn flat_loaded(l: Loaded) -> FlatLoaded
     }
 }
 
+// A flag is any number but 0, and is given as 1.
+fn state_of(f: FlatState) -> State
+    ensures { λ r. ⌜ r ≡ stateOf f ⌝ }
+{
+    State {
+        ro: 0 < f.string,
+        media: 0 < f.media,
+        entries: f.entries,
+        before: f.before,
+        sum: f.sum,
+        staged: f.staged,
+    }
+}
+
+fn flag(b: bool) -> u8
+    ensures { λ r. ⌜ r ≡ flagOf b ⌝ }
+{
+    if b {
+        return 1;
+    }
+    0
+}
+
+fn flat_state(st: State) -> FlatState
+    ensures { λ r. ⌜ r ≡ flatState st ⌝ }
+{
+    let string = flag(st.ro);
+    let media = flag(st.media);
+    FlatState {
+        string,
+        media,
+        entries: st.entries,
+        before: st.before,
+        sum: st.sum,
+        staged: st.staged,
+    }
+}
+
+fn no_state() -> FlatState
+    ensures { λ r. ⌜ r ≡ noState ⌝ }
+{
+    FlatState {
+        string: 0,
+        media: 0,
+        entries: 0,
+        before: 0,
+        sum: 0,
+        staged: 0,
+    }
+}
+
 fn flat_answer(a: Answer) -> FlatAnswer
     ensures { λ r. ⌜ r ≡ flatAnswer a ⌝ }
 {
@@ -231,6 +307,48 @@ pub extern "C" fn vcs_load(count: usize, rw: &[u8], ro: &[u8]) -> FlatLoaded
     ensures { λ r. ⌜ r ≡ flatLoaded (loadOf count (now (rw .entry)) (now (ro .entry))) ⌝ }
 {
     flat_loaded(load(count, rw, ro))
+}
+
+// One entry of a load that is made entry by entry: its length and the state after it, or the end (1).
+#[no_mangle]
+pub extern "C" fn vcs_pass(count: usize, rw: &[u8], ro: &[u8], state: FlatState) -> FlatPassed
+    ensures { λ r. ⌜ r ≡ flatPassed (passOf count (stateOf state) (now (rw .entry)) (now (ro .entry))) ⌝ }
+{
+    let passed = pass(count, rw, ro, state_of(state));
+    match passed {
+        Passed::Past(st, length) => FlatPassed {
+            refusal: 0,
+            at: 0,
+            ended: 0,
+            length,
+            state: flat_state(st),
+        },
+        Passed::End => FlatPassed {
+            refusal: 0,
+            at: 0,
+            ended: 1,
+            length: 0,
+            state: no_state(),
+        },
+        Passed::Refused(r) => {
+            let why = reason_of(r);
+            FlatPassed {
+                refusal: why.number,
+                at: why.at,
+                ended: 0,
+                length: 0,
+                state: no_state(),
+            }
+        }
+    }
+}
+
+// The load taken up again after an entry.
+#[no_mangle]
+pub extern "C" fn vcs_resume(count: usize, rw: &[u8], ro: &[u8], state: FlatState) -> FlatLoaded
+    ensures { λ r. ⌜ r ≡ flatLoaded (resumeOf count (stateOf state) (now (rw .entry)) (now (ro .entry))) ⌝ }
+{
+    flat_loaded(resume(count, rw, ro, state_of(state)))
 }
 
 // The entry call: which string (0 RW, 1 RO), start and length there, and the offset in a set.

@@ -254,3 +254,115 @@ pub fn random_call(random: &mut Random, count: usize, loaded: &Loaded) -> Call {
         _ => Call::Apply { set, lanes: if random.chance(4) { random.byte() } else { 1 << random.below(8) } },
     }
 }
+
+/// The limit of note 7 for each string.
+pub const LIMIT: usize = 16;
+
+/// `n` entries of least Length, 00h and opaque ones, MemoryLength 1; 01h stands
+/// in the RW string alone.
+pub fn space(count: usize, n: usize, in_ro: bool) -> Vec<u8> {
+    let ids = [0x00, 0x13, if in_ro { 0xFF } else { 0x01 }];
+    let one = |k: usize| match count {
+        1..=8 => entry(ids[k % 3], 1, 1, &[]),
+        _ => entry2(ids[k % 3], 1, 1, &[]),
+    };
+    (0..n).flat_map(one).collect()
+}
+
+/// A fault as the entry after `before`, in a string of its own side.
+pub struct Fault {
+    pub number: u32,
+    pub in_ro: bool,
+    /// An entry that makes the fault possible; empty: space as any other.
+    pub before: Vec<u8>,
+    pub bytes: Vec<u8>,
+}
+
+/// Each of 1 to 7 in either string; no 6 in the RO string.
+pub fn faults() -> Vec<Fault> {
+    let mut list = Vec::new();
+    let mut fault = |number: u32, in_ro: bool, before: &[u8], bytes: Vec<u8>| {
+        list.push(Fault { number, in_ro, before: before.to_vec(), bytes });
+    };
+    for in_ro in [false, true] {
+        fault(1, in_ro, &[], vec![0x00, 255, 1, 1]);
+        fault(1, in_ro, &[], vec![0x13, 121]);
+        fault(2, in_ro, &[], vec![0x00, 0]);
+        fault(2, in_ro, &[], vec![0xFF, 1]);
+        fault(2, in_ro, &[], vec![0x12, 6, 1, 8, 0, 0]);
+        fault(7, in_ro, &entry(0x00, 1, 200, &[]), entry(0x13, 1, 255, &[]));
+    }
+    fault(3, false, &[], entry(0x11, 1, 16, &[0]));
+    fault(3, true, &[], entry(0x02, 1, 1, &[0]));
+    fault(4, false, &[], entry(0x0F, 1, 7, &[0]));
+    fault(4, true, &[], entry(0x11, 1, 15, &[0]));
+    fault(5, false, &[], entry(0x09, 1, 8, &[0, 0, 0, 0, 0]));
+    fault(5, true, &[], entry(0x12, 1, 8, &[0, 0, 4]));
+    fault(6, false, &entry(0x10, 1, 8, &[1]), entry(0x02, 1, 1, &[0]));
+    list
+}
+
+/// A string of `at` entries, the fault's own `before` first, then the fault,
+/// then `after` entries.
+pub fn with_fault(fault: &Fault, at: usize, after: usize) -> Vec<u8> {
+    let leading = match fault.before.is_empty() {
+        true => space(4, at, fault.in_ro),
+        false => [fault.before.clone(), space(4, at - 1, fault.in_ro)].concat(),
+    };
+    [leading, fault.bytes.clone(), space(4, after, fault.in_ro)].concat()
+}
+
+/// The table's columns of an ID: least Length without A, bytes needed, parts
+/// and width; opaque IDs have no parts.
+pub fn columns(id: u8) -> (usize, usize, usize, usize) {
+    match id {
+        0x02 | 0x05 | 0x06 | 0x0B | 0x0C => (4, 1, 1, 1),
+        0x03 => (4, 2, 1, 2),
+        0x04 | 0x08 | 0x0E => (6, 4, 1, 4),
+        0x07 => (7, 8, 2, 4),
+        0x09 | 0x0A | 0x0D => (8, 8, 1, 8),
+        0x0F | 0x10 => (4, 8, 1, 8),
+        0x11 => (4, 16, 2, 8),
+        0x12 => (6, 8, 1, 8),
+        _ => (3, 0, 0, 0),
+    }
+}
+
+/// About 16 short entries, mostly good, sometimes with bytes after them.
+pub fn about_sixteen(random: &mut Random, count: usize, in_ro: bool) -> Vec<u8> {
+    let a = 1 + usize::from(count > 8);
+    let wanted = match random.below(4) {
+        0 => random.below(31),
+        1 => LIMIT,
+        _ => 13 + random.below(7),
+    };
+    let mut string = Vec::new();
+    for _ in 0..wanted {
+        let next = if random.chance(40) {
+            let other_string = random.chance(4);
+            random_entry(random, count, in_ro != other_string)
+        } else {
+            let id = match (in_ro, random.below(3)) {
+                (false, 0) => random.pick(&[0x00, 0x01, 0x13, 0xFF]),
+                (false, _) => random.pick(&[0x02, 0x03, 0x05, 0x06, 0x0B, 0x0C]),
+                (true, 0) if random.chance(4) => random.pick(&[0x11, 0x12]),
+                (true, _) => random.pick(&[0x00, 0x13, 0xFE]),
+            };
+            let (least, needed, ..) = columns(id);
+            let mut bytes = vec![0; least + a + usize::from(random.chance(12))];
+            bytes[0] = id;
+            bytes[1] = bytes.len() as u8;
+            bytes[1 + a] = random.byte();
+            bytes[2 + a] = (needed + random.below(2)) as u8;
+            bytes
+        };
+        if string.len() + next.len() <= 120 {
+            string.extend(next);
+        }
+    }
+    if random.chance(4) {
+        let size = random.below(4).min(120 - string.len());
+        string.extend(random.bytes(size));
+    }
+    string
+}

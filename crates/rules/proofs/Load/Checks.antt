@@ -28,21 +28,21 @@ passed true n d e h = let z : _≡_ {A = ℕ} 0 1 = cc in absurd (omega arith)
 passed false n d e h = (refl, h)
 
 -- an entry that passes its checks at a place of a string and a state
-pub record Passed (ro : Bool) (a : ℕ) (s : List ℕ) (at : ℕ) (st : State) (e : Entry) : Type 0 where
+pub record Passed (a : ℕ) (s : List ℕ) (at : ℕ) (st : State) (e : Entry) : Type 0 where
   pub entry : e ≡ entryAt a s at (st .sum)
-  pub few : st .number < st .first + entryLimit
+  pub few : st .entries < entryLimit
   pub within : e .length ≤ length s - at
   pub long : 3 + a ≤ e .length
-  pub side : mayStand (rowOf (e .id) .side) ro ≡ true
+  pub side : mayStand (rowOf (e .id) .side) (st .ro) ≡ true
   pub good : GoodEntry e
   pub sum : st .sum + e .memory ≤ 256
 
 same-entry : (x y : Entry) → decoded x ≡ decoded y → y ≡ x
 same-entry x y h = cc
 
-pub decode-passed : (ro : Bool) (a : ℕ) (s : List ℕ) (at : ℕ) (st : State) (e : Entry) → decodeAt ro a s at st ≡ decoded e → Passed ro a s at st e
+pub decode-passed : (a : ℕ) (s : List ℕ) (at : ℕ) (st : State) (e : Entry) → decodeAt a s at st ≡ decoded e → Passed a s at st e
 unfolding decodeWithin lengthChecks contentChecks
-decode-passed ro a s at st e h =
+decode-passed a s at st e h =
     let h0 = passed _ _ _ e h in
     let h1 = passed _ _ _ e (h0 .1) in
     let h2 = passed _ _ _ e (h1 .1) in

@@ -1,7 +1,7 @@
 -- The entry call's part is the entry's own bytes, as many as its Length says, and at least 4.
 -- So an empty part is handed back exactly when the call is refused.
 use mathlib.Core.Path.{_≡_, refl, ap, _∙_}
-use mathlib.Core.Bool.{Bool, true, false, not, cond}
+use mathlib.Core.Bool.{not, cond}
 use mathlib.Core.List.{List, [], _++_}
 use mathlib.Core.Logic.{_↔_}
 use Prim.Native.Nat.{ℕ, _+_, _-_, _≤_, _<_}
@@ -36,15 +36,15 @@ unfolding maskBytes
 mask-least count = by-test (λ n. 1 ≤ n) (leb count 8) 1 2 (λ _. omega arith) (λ _. omega arith)
 
 filled-part :
-    (ro : Bool) (count : ℕ) (s : List ℕ) (l : List Entry) (n : ℕ)
-    → Filled ro (maskBytes count) s 0 l
+    (count : ℕ) (s : List ℕ) (l : List Entry) (n : ℕ)
+    → Filled (maskBytes count) s 0 l
     → n < length l
     → OwnPart s (getD l n nothing)
-filled-part ro count s l n g h =
-    let w = filled-nth ro (maskBytes count) s l n g h in
+filled-part count s l n g h =
+    let w = filled-nth (maskBytes count) s l n g h in
     let e : Entry = getD l n nothing in
-    let p = decode-passed ro (maskBytes count) s _ (w .st) e (w .passes) in
-    let b = stands-start ro (maskBytes count) s w in
+    let p = decode-passed (maskBytes count) s _ (w .st) e (w .passes) in
+    let b = stands-start (maskBytes count) s w in
     record {
       size = simp (length-take, length-drop) (omega arith);
       least = omega (arith, mask-least count);
@@ -67,7 +67,7 @@ module _ (count : ℕ) (first last : List ℕ) (ok : Accepted count first last) 
       in-rw t =
           rw
           (List·getD-append r o nothing e (ltb→lt _ _ t))
-          (filled-part false count first r e (rw-filled count first last ok) (ltb→lt _ _ t))
+          (filled-part count first r e (rw-filled count first last ok) (ltb→lt _ _ t))
 
       in-ro : T (not (ltb e (length r))) → OwnPart last (getD (r ++ o) e nothing)
       in-ro t =
@@ -75,7 +75,7 @@ module _ (count : ℕ) (first last : List ℕ) (ok : Accepted count first last) 
           let q : e ≡ length r + (e - length r) = omega arith in
           rw
           (ap (λ i. getD (r ++ o) i nothing) q ∙ getD-append-add r o (e - length r) nothing)
-          (filled-part true count last o (e - length r) (ro-filled count first last ok) (omega (arith, length-append r o)))
+          (filled-part count last o (e - length r) (ro-filled count first last ok) (omega (arith, length-append r o)))
 
   verdict-accepted : entryVerdict (readOf count first last) e ≡ passes
   unfolding entryVerdict

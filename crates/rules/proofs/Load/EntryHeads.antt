@@ -26,15 +26,15 @@ pub record Head (a : ℕ) (s : List ℕ) (e : Entry) : Type 0 where
   pub says : e ≡ entryAt a s (e .start) (e .offset)
   pub room : e .start + 2 + a < length s
 
-module _ (ro : Bool) (a : ℕ) (s : List ℕ) where
-  stands-head : {from : ℕ} {e : Entry} → Stands ro a s from e → Head a s e
+module _ (a : ℕ) (s : List ℕ) where
+  stands-head : {from : ℕ} {e : Entry} → Stands a s from e → Head a s e
   stands-head {from} {e} g =
-      let p = decode-passed ro a s from (g .st) e (g .passes) in
-      let b = stands-start ro a s g in
+      let p = decode-passed a s from (g .st) e (g .passes) in
+      let b = stands-start a s g in
       record { says = rw (p .entry) refl; room = omega arith }
 
-  pub filled-head : (l : List Entry) (n : ℕ) → Filled ro a s 0 l → n < length l → Head a s (getD l n nothing)
-  filled-head l n g h = stands-head (filled-nth ro a s l n g h)
+  pub filled-head : (l : List Entry) (n : ℕ) → Filled a s 0 l → n < length l → Head a s (getD l n nothing)
+  filled-head l n g h = stands-head (filled-nth a s l n g h)
 
 -- the Lengths and the MemoryLengths before the next entry
 pub lengths-next : (l : List Entry) (n : ℕ) → n < length l → lengths (take (suc n) l) ≡ lengths (take n l) + getD l n nothing .length
@@ -100,7 +100,7 @@ module _ (count : ℕ) (first last : List ℕ) (ok : Accepted count first last) 
 
     pub rw-head : Head (maskBytes count) first (entry (mapOf count first last) e)
     unfolding mapWithin
-    rw-head = rw in-rw (filled-head false (maskBytes count) first r e (rw-filled count first last ok) h)
+    rw-head = rw in-rw (filled-head (maskBytes count) first r e (rw-filled count first last ok) h)
 
     pub rw-place : lengths (take e (mapOf count first last .entries)) ≡ entry (mapOf count first last) e .start
     unfolding mapWithin bothWithin
@@ -132,7 +132,7 @@ module _ (count : ℕ) (first last : List ℕ) (ok : Accepted count first last) 
     in-ro = ap (λ i. getD (r ++ o) i nothing) split ∙ getD-append-add r o n nothing
 
     pub ro-head : Head (maskBytes count) last (entry (mapOf count first last) e)
-    ro-head = rw in-ro (filled-head true (maskBytes count) last o n (ro-filled count first last ok) n-lt)
+    ro-head = rw in-ro (filled-head (maskBytes count) last o n (ro-filled count first last ok) n-lt)
 
     pub ro-place : lengths (take e (mapOf count first last .entries)) ≡ length first + entry (mapOf count first last) e .start
     unfolding mapWithin bothWithin

@@ -8,9 +8,9 @@ use native.Mathlib.Omega.{arith}
 use lib.ListN.{length}
 use lib.Dec.{ltb}
 use borrow.Author.Tests.{lt-leb}
-use Rattle.rules.specs.Words.{Entry, Decoded, decoded, failed, State, Walked, ended, stopped, accepted}
+use Rattle.rules.specs.Words.{Entry, Decoded, decoded, failed, State, Walked, ended, stopped}
 use Rattle.rules.specs.Descriptor.{maskBytes, unlimited, upTo, limited, entryLimit, decodeWithin}
-use Rattle.rules.specs.Load.{start, next, intoRO, Turn, onward, gather, after, onEnd, foldBy, foldOf, walkWithin, entriesWithin, stringsWithin, rwWithin, roWithin, bothWithin, mapWithin, Reading, readOf, loadOn, loadOf}
+use Rattle.rules.specs.Load.{start, next, intoRO, answer, Turn, onward, gather, after, onEnd, foldBy, foldOf, walkWithin, entriesWithin, restWithin, stringsWithin, rwWithin, roWithin, bothWithin, mapWithin, Reading, readOf, loadOn, loadOf}
 use Rattle.rules.specs.Bank.{bankCallOn, bankCall, freshOn, freshCall}
 use Rattle.rules.specs.Table.{tableCallOn, tableCall}
 use Rattle.rules.specs.Beside.{placeOn, placeOf, ownerOn, ownerCall, entryAnswerOn, entryAnswer, entryBytesOn, entryBytes, weightOn, weightCall}
@@ -18,86 +18,86 @@ use Rattle.rules.specs.MapProgram.{outputOn, mapOutput}
 use Rattle.rules.specs.Demands.{tally, AtMost16, AsBefore, readBefore}
 
 -- an entry before which fewer than n stand
-decode-same : (n : ℕ) (ro : Bool) (a : ℕ) (s : List ℕ) (at : ℕ) (st : State)
-    → st .number < st .first + n
-    → decodeWithin (upTo n) ro a s at st ≡ decodeWithin unlimited ro a s at st
+decode-same : (n : ℕ) (a : ℕ) (s : List ℕ) (at : ℕ) (st : State)
+    → st .entries < n
+    → decodeWithin (upTo n) a s at st ≡ decodeWithin unlimited a s at st
 unfolding decodeWithin
-decode-same n ro a s at st h = rw (lt-leb (st .first + n) (st .number) h)
+decode-same n a s at st h = rw (lt-leb n (st .entries) h)
 
 -- a walk that makes of an entry what it makes of the rest behind it
 module _ {A : Type 0} (on : Turn A) (end : State → A)
     (uses : (e : Entry) (st : State) (k k′ : Entry → A) → k e ≡ k′ e → on (decoded e) st k ≡ on (decoded e) st k′)
     (fails : (n : ℕ) (st : State) (k k′ : Entry → A) → on (failed n) st k ≡ on (failed n) st k′)
-    (n : ℕ) (ro : Bool) (a : ℕ) (s : List ℕ) where
+    (n : ℕ) (a : ℕ) (s : List ℕ) where
   fold-same : (f at : ℕ) (st : State)
-      → st .number + foldBy unlimited tally (λ _. 0) ro a f s at st ≤ st .first + n
-      → foldBy (upTo n) on end ro a f s at st ≡ foldBy unlimited on end ro a f s at st
+      → st .entries + foldBy unlimited tally (λ _. 0) a f s at st ≤ n
+      → foldBy (upTo n) on end a f s at st ≡ foldBy unlimited on end a f s at st
   unfolding foldBy
   fold-same zero at st h = refl
-  fold-same (suc f) at st h = go (ltb at (length s)) (decodeWithin unlimited ro a s at st) refl (λ e. fold-same f (at + e .length) (next st e)) h
+  fold-same (suc f) at st h = go (ltb at (length s)) (decodeWithin unlimited a s at st) refl (λ e. fold-same f (at + e .length) (next st e)) h
     where
       rest : Entry → A
-      rest e = foldBy unlimited on end ro a f s (at + e .length) (next st e)
+      rest e = foldBy unlimited on end a f s (at + e .length) (next st e)
 
       within : Entry → A
-      within e = foldBy (upTo n) on end ro a f s (at + e .length) (next st e)
+      within e = foldBy (upTo n) on end a f s (at + e .length) (next st e)
 
       met : Entry → ℕ
-      met e = foldBy unlimited tally (λ _. 0) ro a f s (at + e .length) (next st e)
+      met e = foldBy unlimited tally (λ _. 0) a f s (at + e .length) (next st e)
 
       go : (b : Bool) (d : Decoded)
-          → decodeWithin unlimited ro a s at st ≡ d
-          → ((e : Entry) → st .number + 1 + met e ≤ st .first + n → within e ≡ rest e)
-          → st .number + cond b (tally d st met) 0 ≤ st .first + n
-          → cond b (on (decodeWithin (upTo n) ro a s at st) st within) (end st) ≡ cond b (on d st rest) (end st)
+          → decodeWithin unlimited a s at st ≡ d
+          → ((e : Entry) → st .entries + 1 + met e ≤ n → within e ≡ rest e)
+          → st .entries + cond b (tally d st met) 0 ≤ n
+          → cond b (on (decodeWithin (upTo n) a s at st) st within) (end st) ≡ cond b (on d st rest) (end st)
       go false d q ih h = refl
-      go true (failed k) q ih h = rw (decode-same n ro a s at st (omega arith), q) (fails k st within rest)
+      go true (failed k) q ih h = rw (decode-same n a s at st (omega arith), q) (fails k st within rest)
       go true (decoded e) q ih h =
-          rw (decode-same n ro a s at st (omega arith), q)
+          rw (decode-same n a s at st (omega arith), q)
           (uses e st within rest (ih e (omega arith)))
 
-module _ (n : ℕ) (ro : Bool) (a : ℕ) (s : List ℕ) (begin : State) (h : foldOf unlimited tally (λ _. 0) ro a s 0 (intoRO begin) ≤ n) where
-  walk-same : walkWithin (upTo n) ro a s 0 (intoRO begin) ≡ walkWithin unlimited ro a s 0 (intoRO begin)
+module _ (n : ℕ) (a : ℕ) (s : List ℕ) (begin : State) (none : begin .entries ≡ 0) (h : foldOf unlimited tally (λ _. 0) a s 0 begin ≤ n) where
+  walk-same : walkWithin (upTo n) a s 0 begin ≡ walkWithin unlimited a s 0 begin
   unfolding walkWithin foldOf
   walk-same =
-      fold-same onward ended (λ e st k k′ q. q) (λ m st k k′. refl) n ro a s (length s) 0 (intoRO begin) (omega arith)
+      fold-same onward ended (λ e st k k′ q. q) (λ m st k k′. refl) n a s (length s) 0 begin (omega arith)
 
-  entries-same : entriesWithin (upTo n) ro a s 0 (intoRO begin) ≡ entriesWithin unlimited ro a s 0 (intoRO begin)
+  entries-same : entriesWithin (upTo n) a s 0 begin ≡ entriesWithin unlimited a s 0 begin
   unfolding entriesWithin foldOf
   entries-same =
-      fold-same gather (λ _. []) (λ e st k k′ q. ap (λ l. e ∷ l) q) (λ m st k k′. refl) n ro a s (length s) 0 (intoRO begin) (omega arith)
+      fold-same gather (λ _. []) (λ e st k k′ q. ap (λ l. e ∷ l) q) (λ m st k k′. refl) n a s (length s) 0 begin (omega arith)
 
 module _ (count : ℕ) (first last : List ℕ) (few : AtMost16 count first last) where
   abbrev a : ℕ
   a = maskBytes count
 
-  rw-walk : walkWithin limited false a first 0 start ≡ walkWithin unlimited false a first 0 start
-  rw-walk = walk-same entryLimit false a first start (few .in-rw)
+  rw-walk : walkWithin limited a first 0 start ≡ walkWithin unlimited a first 0 start
+  rw-walk = walk-same entryLimit a first start refl (few .in-rw)
 
   strings-same : stringsWithin limited count first last ≡ stringsWithin unlimited count first last
-  unfolding stringsWithin
-  strings-same = rw rw-walk (go (walkWithin unlimited false a first 0 start) refl)
+  unfolding stringsWithin restWithin
+  strings-same = rw rw-walk (go (walkWithin unlimited a first 0 start) refl)
     where
       go : (w : Walked)
-          → walkWithin unlimited false a first 0 start ≡ w
-          → after w (λ m. after (walkWithin limited true a last 0 (intoRO m)) (λ e. accepted (m .number) (e .number - m .number) (m .sum) (e .sum)))
-          ≡ after w (λ m. after (walkWithin unlimited true a last 0 (intoRO m)) (λ e. accepted (m .number) (e .number - m .number) (m .sum) (e .sum)))
+          → walkWithin unlimited a first 0 start ≡ w
+          → after w (λ m. after (walkWithin limited a last 0 (intoRO m)) answer)
+          ≡ after w (λ m. after (walkWithin unlimited a last 0 (intoRO m)) answer)
       go (stopped r) q = refl
-      go (ended m) q = rw (walk-same entryLimit true a last m (few .in-ro m q))
+      go (ended m) q = rw (walk-same entryLimit a last (intoRO m) refl (few .in-ro m q))
 
   rw-same : rwWithin limited count first ≡ rwWithin unlimited count first
   unfolding rwWithin
-  rw-same = entries-same entryLimit false a first start (few .in-rw)
+  rw-same = entries-same entryLimit a first start refl (few .in-rw)
 
   ro-same : roWithin limited count first last ≡ roWithin unlimited count first last
   unfolding roWithin
-  ro-same = rw rw-walk (go (walkWithin unlimited false a first 0 start) refl)
+  ro-same = rw rw-walk (go (walkWithin unlimited a first 0 start) refl)
     where
       go : (w : Walked)
-          → walkWithin unlimited false a first 0 start ≡ w
-          → onEnd w (λ m. entriesWithin limited true a last 0 (intoRO m)) ≡ onEnd w (λ m. entriesWithin unlimited true a last 0 (intoRO m))
+          → walkWithin unlimited a first 0 start ≡ w
+          → onEnd w (λ m. entriesWithin limited a last 0 (intoRO m)) ≡ onEnd w (λ m. entriesWithin unlimited a last 0 (intoRO m))
       go (stopped r) q = refl
-      go (ended m) q = entries-same entryLimit true a last m (few .in-ro m q)
+      go (ended m) q = entries-same entryLimit a last (intoRO m) refl (few .in-ro m q)
 
   map-same : mapWithin limited count first last ≡ mapWithin unlimited count first last
   unfolding mapWithin bothWithin

@@ -8,7 +8,7 @@ use lib.Dec.{ltb}
 use lib.ListN.{length}
 use Rattle.rules.specs.Words.{Refusal, numberOf, Entry, Decoded, decoded, failed, State, Walked, ended, stopped, Loaded, accepted, rejected}
 use Rattle.rules.specs.Descriptor.{maskBytes, refuse, lengthChecks, contentChecks, decodeAt, decodeWithin, limited}
-use Rattle.rules.specs.Load.{start, next, intoRO, foldBy, foldOf, onward, walkOf, sized, after, stringsOf, loadOf, stringsWithin, walkWithin}
+use Rattle.rules.specs.Load.{start, next, intoRO, foldBy, foldOf, onward, walkOf, sized, after, stringsOf, loadOf, restWithin, stringsWithin, walkWithin}
 use Rattle.rules.proofs.Basics.Tests.{by-test}
 
 abbrev Entry-number : Decoded → Type 0
@@ -20,9 +20,9 @@ unfolding refuse
 refuse-number true n d h k = h
 refuse-number false n d h k = k
 
-decode-number : (ro : Bool) (a : ℕ) (s : List ℕ) (at : ℕ) (st : State) → Entry-number (decodeAt ro a s at st)
+decode-number : (a : ℕ) (s : List ℕ) (at : ℕ) (st : State) → Entry-number (decodeAt a s at st)
 unfolding decodeWithin lengthChecks contentChecks
-decode-number ro a s at st =
+decode-number a s at st =
     refuse-number _ 16 _ (omega arith)
     (refuse-number _ 1 _ (omega arith)
     (refuse-number _ 2 _ (omega arith)
@@ -36,22 +36,22 @@ abbrev Walk-number : Walked → Type 0
 Walk-number (ended st) = Unit
 Walk-number (stopped r) = numberOf r ≤ 16
 
-by-fuel : (ro : Bool) (a f : ℕ) (s : List ℕ) (at : ℕ) (st : State) → Walk-number (foldBy limited onward ended ro a f s at st)
+by-fuel : (a f : ℕ) (s : List ℕ) (at : ℕ) (st : State) → Walk-number (foldBy limited onward ended a f s at st)
 unfolding foldBy
-by-fuel ro a zero s at st = tt
-by-fuel ro a (suc f) s at st = go (ltb at (length s)) (decodeAt ro a s at st) (decode-number ro a s at st) (λ e. by-fuel ro a f s (at + e .length) (next st e))
+by-fuel a zero s at st = tt
+by-fuel a (suc f) s at st = go (ltb at (length s)) (decodeAt a s at st) (decode-number a s at st) (λ e. by-fuel a f s (at + e .length) (next st e))
   where
     rest : Entry → Walked
-    rest e = foldBy limited onward ended ro a f s (at + e .length) (next st e)
+    rest e = foldBy limited onward ended a f s (at + e .length) (next st e)
 
     go : (b : Bool) (d : Decoded) → Entry-number d → ((e : Entry) → Walk-number (rest e)) → Walk-number (cond b (onward d st rest) (ended st))
     go false d h k = tt
     go true (decoded e) h k = k e
     go true (failed n) h k = omega arith
 
-walk-number : (ro : Bool) (a : ℕ) (s : List ℕ) (at : ℕ) (st : State) → Walk-number (walkOf ro a s at st)
+walk-number : (a : ℕ) (s : List ℕ) (at : ℕ) (st : State) → Walk-number (walkOf a s at st)
 unfolding walkWithin foldOf
-walk-number ro a s at st = by-fuel ro a (length s) s at st
+walk-number a s at st = by-fuel a (length s) s at st
 
 abbrev Load-number : Loaded → Type 0
 Load-number (accepted n k c t) = Unit
@@ -62,11 +62,11 @@ after-number (ended st) k h g = g st
 after-number (stopped r) k h g = h
 
 strings-number : (count : ℕ) (rw ro : List ℕ) → Load-number (stringsOf count rw ro)
-unfolding stringsWithin
+unfolding stringsWithin restWithin
 strings-number count first last =
-    after-number (walkOf false (maskBytes count) first 0 start) _
-    (walk-number false (maskBytes count) first 0 start)
-    (λ m. after-number (walkOf true (maskBytes count) last 0 (intoRO m)) _ (walk-number true (maskBytes count) last 0 (intoRO m)) (λ e. tt))
+    after-number (walkOf (maskBytes count) first 0 start) _
+    (walk-number (maskBytes count) first 0 start)
+    (λ m. after-number (walkOf (maskBytes count) last 0 (intoRO m)) _ (walk-number (maskBytes count) last 0 (intoRO m)) (λ e. tt))
 
 numbered : (count : ℕ) (rw ro : List ℕ) → Load-number (loadOf count rw ro)
 unfolding loadOf

@@ -2,10 +2,10 @@
 use mathlib.Core.Path.{_≡_}
 use mathlib.Core.Bool.{true, false}
 use mathlib.Core.List.{List}
-use Prim.Native.Nat.{ℕ, _-_}
-use Rattle.rules.specs.Words.{Refusal, plain, State, ended, stopped, accepted, rejected}
+use Prim.Native.Nat.{ℕ}
+use Rattle.rules.specs.Words.{Refusal, plain, State, ended, stopped, rejected}
 use Rattle.rules.specs.Descriptor.{maskBytes}
-use Rattle.rules.specs.Load.{start, intoRO, walkOf, sized, stringsOf, loadOf, stringsWithin}
+use Rattle.rules.specs.Load.{start, intoRO, answer, walkOf, sized, stringsOf, loadOf, restWithin, stringsWithin}
 
 module _ (count : ℕ) (first last : List ℕ) where
   pub load-9 : sized count first last ≡ false → loadOf count first last ≡ rejected (plain 9)
@@ -16,18 +16,18 @@ module _ (count : ℕ) (first last : List ℕ) where
   unfolding loadOf
   load-strings h = rw h
 
-  pub strings-rw-refused : (r : Refusal) → walkOf false (maskBytes count) first 0 start ≡ stopped r → stringsOf count first last ≡ rejected r
-  unfolding stringsWithin
+  pub strings-rw-refused : (r : Refusal) → walkOf (maskBytes count) first 0 start ≡ stopped r → stringsOf count first last ≡ rejected r
+  unfolding stringsWithin restWithin
   strings-rw-refused r h = rw h
 
-  module _ (m : State) (h : walkOf false (maskBytes count) first 0 start ≡ ended m) where
-    pub strings-ro-refused : (r : Refusal) → walkOf true (maskBytes count) last 0 (intoRO m) ≡ stopped r → stringsOf count first last ≡ rejected r
-    unfolding stringsWithin
+  module _ (m : State) (h : walkOf (maskBytes count) first 0 start ≡ ended m) where
+    pub strings-ro-refused : (r : Refusal) → walkOf (maskBytes count) last 0 (intoRO m) ≡ stopped r → stringsOf count first last ≡ rejected r
+    unfolding stringsWithin restWithin
     strings-ro-refused r k = rw (h, k)
 
     pub strings-accepted :
         (e : State)
-        → walkOf true (maskBytes count) last 0 (intoRO m) ≡ ended e
-        → stringsOf count first last ≡ accepted (m .number) (e .number - m .number) (m .sum) (e .sum)
-    unfolding stringsWithin
+        → walkOf (maskBytes count) last 0 (intoRO m) ≡ ended e
+        → stringsOf count first last ≡ answer e
+    unfolding stringsWithin restWithin
     strings-accepted e k = rw (h, k)

@@ -1,6 +1,6 @@
 -- The reader on a string that the load accepts: from 0 on it takes the walk's entries, one directly after the other, and then the end.
 use mathlib.Core.Path.{_≡_, refl, sym, ap, _∙_}
-use mathlib.Core.Bool.{Bool, true, false}
+use mathlib.Core.Bool.{true}
 use mathlib.Core.List.{List, []}
 use Prim.Native.Nat.{ℕ, suc, _+_, _<_}
 use native.Mathlib.Omega.{arith}
@@ -28,33 +28,33 @@ pub record Reads (count : ℕ) (s : List ℕ) (l : List Entry) : Type 0 where
 module _ (count : ℕ) (s : List ℕ) (fits : sized count s [] ≡ true) where
   -- an entry that passes all checks passes the reader's
   take-stands :
-      (ro : Bool) {from : ℕ} {e : Entry}
-      → Stands ro (maskBytes count) s from e
+      {from : ℕ} {e : Entry}
+      → Stands (maskBytes count) s from e
       → takeOf count s from ≡ taken (e .start) (e .length)
   unfolding takeOf decodeWithin lengthChecks
-  take-stands ro {from} {e} w =
+  take-stands {from} {e} w =
       let h0 = passed _ _ _ e (w .passes) in
       let h1 = passed _ _ _ e (h0 .1) in
       let h2 = passed _ _ _ e (h1 .1) in
       rw (fits, lt-ltb from (length s) (w .left))
       (ap takenOf (sym (pass 1 _ (h1 .0) (pass 2 _ (h2 .0) refl)))
-      ∙ ap (λ (x : Entry). taken (x .start) (x .length)) (sym (decode-passed ro (maskBytes count) s from (w .st) e (w .passes) .entry)))
+      ∙ ap (λ (x : Entry). taken (x .start) (x .length)) (sym (decode-passed (maskBytes count) s from (w .st) e (w .passes) .entry)))
 
   take-moves :
-      (ro : Bool) {from : ℕ} {e : Entry}
-      → Stands ro (maskBytes count) s from e
+      {from : ℕ} {e : Entry}
+      → Stands (maskBytes count) s from e
       → movedTo (takeOf count s from) from ≡ from + e .length
-  take-moves ro {from} {e} w = rw (take-stands ro w) (ap (λ n. n + e .length) (stands-start ro (maskBytes count) s w))
+  take-moves {from} {e} w = rw (take-stands w) (ap (λ n. n + e .length) (stands-start (maskBytes count) s w))
 
   take-end : takeOf count s (length s) ≡ noMore
   unfolding takeOf
   take-end = rw (fits, le-ltb (length s) (length s) (omega arith))
 
-  filled-reads : (ro : Bool) (l : List Entry) → Filled ro (maskBytes count) s 0 l → Reads count s l
-  filled-reads ro l g =
+  filled-reads : (l : List Entry) → Filled (maskBytes count) s 0 l → Reads count s l
+  filled-reads l g =
       record {
-        takes = λ n h. take-stands ro (filled-nth ro (maskBytes count) s l n g h);
-        moves = λ n h. take-moves ro (filled-nth ro (maskBytes count) s l n g h) ∙ sym (lengths-next l n h);
+        takes = λ n h. take-stands (filled-nth (maskBytes count) s l n g h);
+        moves = λ n h. take-moves (filled-nth (maskBytes count) s l n g h) ∙ sym (lengths-next l n h);
         ends = take-end;
       }
 
@@ -69,7 +69,7 @@ module _ (count : ℕ) (first last : List ℕ) (ok : Accepted count first last) 
   sized-one s h = rw (is-true (leb 1 count) (sized-parts .0), is-true (leb count 15) (sized-parts .1), is-true (leb (length s) 120) h)
 
   pub rw-reads : Reads count first (rwEntries count first)
-  rw-reads = filled-reads count first (sized-one first (sized-parts .2)) false (rwEntries count first) (rw-filled count first last ok)
+  rw-reads = filled-reads count first (sized-one first (sized-parts .2)) (rwEntries count first) (rw-filled count first last ok)
 
   pub ro-reads : Reads count last (roEntries count first last)
-  ro-reads = filled-reads count last (sized-one last (sized-parts .3)) true (roEntries count first last) (ro-filled count first last ok)
+  ro-reads = filled-reads count last (sized-one last (sized-parts .3)) (roEntries count first last) (ro-filled count first last ok)

@@ -9,7 +9,7 @@ use lib.ListN.{length, getD, length-append, List·getD-append}
 use lib.Dec.{T, ltb, leb, leb→le}
 use Rattle.rules.specs.Words.{plain, Entry, Decoded, decoded, failed, State, Walked, ended, stopped, accepted, rejected}
 use Rattle.rules.specs.Descriptor.{maskBytes, decodeAt, limited, entryLimit}
-use Rattle.rules.specs.Load.{start, next, intoRO, foldBy, foldOf, onward, walkOf, gather, entriesFrom, sized, after, stringsOf, loadOf, rwEntries, roEntries, entriesOf, total, mapOf, bothWithin, entriesWithin, mapWithin, readOf, roWithin, rwWithin, stringsWithin, walkWithin}
+use Rattle.rules.specs.Load.{start, next, intoRO, answer, foldBy, foldOf, onward, walkOf, gather, entriesFrom, sized, after, stringsOf, loadOf, rwEntries, roEntries, entriesOf, total, mapOf, bothWithin, entriesWithin, mapWithin, readOf, roWithin, rwWithin, restWithin, stringsWithin, walkWithin}
 use Rattle.rules.specs.Place.{nothing, entry, isStaged, heldBy, lengthOf}
 use Rattle.rules.specs.Refuse.{passes, check9, checkEntries}
 use Rattle.rules.specs.Demands.{Accepted}
@@ -18,7 +18,10 @@ use Rattle.rules.proofs.Place.AcceptedMap.{Good, GoodMap}
 use Rattle.rules.proofs.Load.Checks.{decode-passed}
 
 pub record Listed (st end : State) (l : List Entry) : Type 0 where
-  pub counts : end .number ≡ st .number + length l
+  pub side : end .ro ≡ st .ro
+  pub before : end .before ≡ st .before
+  pub staged : end .staged ≡ st .staged
+  pub counts : end .entries ≡ st .entries + length l
   pub sums : end .sum ≡ st .sum + total l
   pub most : end .sum ≤ 256
   pub good : Good (st .sum) l
@@ -26,78 +29,87 @@ pub record Listed (st end : State) (l : List Entry) : Type 0 where
 here : (st end : State) → st .sum ≤ 256 → ended st ≡ ended end → Listed st end []
 unfolding total
 here st end g h =
-    let q : st ≡ end = cc in rw (← q) (record { counts = omega arith; sums = omega arith; most = g; good = g })
+    let q : st ≡ end = cc in rw (← q) (record { side = refl; before = refl; staged = refl; counts = omega arith; sums = omega arith; most = g; good = g })
 
-module _ (ro : Bool) (a : ℕ) (s : List ℕ) (end : State) where
+module _ (a : ℕ) (s : List ℕ) (end : State) where
   turned :
       (at : ℕ) (st : State) (k : Entry → Walked) (l : Entry → List Entry)
       → ((e : Entry) → next st e .sum ≤ 256 → k e ≡ ended end → Listed (next st e) end (l e))
       → st .sum ≤ 256
       → (b : Bool) (d : Decoded)
-      → decodeAt ro a s at st ≡ d
+      → decodeAt a s at st ≡ d
       → cond b (onward d st k) (ended st) ≡ ended end
       → Listed st end (cond b (gather d st l) [])
   unfolding total
   turned at st k l ih g false d q h = here st end g h
   turned at st k l ih g true (failed n) q h = let z : _≡_ {A = ℕ} 0 1 = cc in absurd (omega arith)
   turned at st k l ih g true (decoded e) q h =
-      let p = decode-passed ro a s at st e q in
+      let p = decode-passed a s at st e q in
       let r = ih e (p .sum) h in
       let off : e .offset ≡ st .sum = ap (λ (x : Entry). x .offset) (p .entry) in
-      record { counts = omega arith; sums = omega arith; most = r .most; good = (p .good, off, r .good) }
+      record {
+        side = r .side;
+        before = r .before;
+        staged = r .staged;
+        counts = omega arith;
+        sums = omega arith;
+        most = r .most;
+        good = (p .good, off, r .good);
+      }
 
-  by-fuel : (f at : ℕ) (st : State) → st .sum ≤ 256 → foldBy limited onward ended ro a f s at st ≡ ended end → Listed st end (foldBy limited gather (λ _. []) ro a f s at st)
+  by-fuel : (f at : ℕ) (st : State) → st .sum ≤ 256 → foldBy limited onward ended a f s at st ≡ ended end → Listed st end (foldBy limited gather (λ _. []) a f s at st)
   unfolding foldBy
   by-fuel zero at st g h = here st end g h
   by-fuel (suc f) at st g h =
       turned at st
-      (λ e. foldBy limited onward ended ro a f s (at + e .length) (next st e))
-      (λ e. foldBy limited gather (λ _. []) ro a f s (at + e .length) (next st e))
+      (λ e. foldBy limited onward ended a f s (at + e .length) (next st e))
+      (λ e. foldBy limited gather (λ _. []) a f s (at + e .length) (next st e))
       (λ e. by-fuel f (at + e .length) (next st e))
       g
       (ltb at (length s))
-      (decodeAt ro a s at st)
+      (decodeAt a s at st)
       refl
       h
 
-  pub walk-listed : (at : ℕ) (st : State) → st .sum ≤ 256 → walkOf ro a s at st ≡ ended end → Listed st end (entriesFrom ro a s at st)
+  pub walk-listed : (at : ℕ) (st : State) → st .sum ≤ 256 → walkOf a s at st ≡ ended end → Listed st end (entriesFrom a s at st)
   unfolding walkWithin foldOf entriesWithin
   walk-listed at st g h = by-fuel (length s) at st g h
 
 -- no walk passes more entries of a string than the limit
 few-by :
-    (ro : Bool) (a f : ℕ) (s : List ℕ) (at : ℕ) (st : State)
-    → st .number ≤ st .first + entryLimit
-    → st .number + length (foldBy limited gather (λ _. []) ro a f s at st) ≤ st .first + entryLimit
+    (a f : ℕ) (s : List ℕ) (at : ℕ) (st : State)
+    → st .entries ≤ entryLimit
+    → st .entries + length (foldBy limited gather (λ _. []) a f s at st) ≤ entryLimit
 unfolding foldBy
-few-by ro a zero s at st h = omega arith
-few-by ro a (suc f) s at st h = go (ltb at (length s)) (decodeAt ro a s at st) refl (λ e. few-by ro a f s (at + e .length) (next st e))
+few-by a zero s at st h = omega arith
+few-by a (suc f) s at st h = go (ltb at (length s)) (decodeAt a s at st) refl (λ e. few-by a f s (at + e .length) (next st e))
   where
     rest : Entry → List Entry
-    rest e = foldBy limited gather (λ _. []) ro a f s (at + e .length) (next st e)
+    rest e = foldBy limited gather (λ _. []) a f s (at + e .length) (next st e)
 
     go :
         (b : Bool) (d : Decoded)
-        → decodeAt ro a s at st ≡ d
-        → ((e : Entry) → st .number + 1 ≤ st .first + entryLimit → st .number + 1 + length (rest e) ≤ st .first + entryLimit)
-        → st .number + length (cond b (gather d st rest) []) ≤ st .first + entryLimit
+        → decodeAt a s at st ≡ d
+        → ((e : Entry) → st .entries + 1 ≤ entryLimit → st .entries + 1 + length (rest e) ≤ entryLimit)
+        → st .entries + length (cond b (gather d st rest) []) ≤ entryLimit
     go false d q ih = omega arith
     go true (failed n) q ih = omega arith
     go true (decoded e) q ih =
-        let l : st .number < st .first + entryLimit = decode-passed ro a s at st e q .few in
+        let l : st .entries < entryLimit = decode-passed a s at st e q .few in
         omega (arith, ih e (omega arith))
 
--- a walk that ends: how far its entry numbers and its sum come
+-- a walk that ends: how far its entries and its sum come
 pub walk-counts :
-    (ro : Bool) (a : ℕ) (s : List ℕ) (at : ℕ) (begin end : State)
+    (a : ℕ) (s : List ℕ) (at : ℕ) (begin end : State)
+    → begin .entries ≤ entryLimit
     → begin .sum ≤ 256
-    → walkOf ro a s at (intoRO begin) ≡ ended end
-    → (begin .number ≤ end .number) × (end .number ≤ begin .number + entryLimit) × (end .sum ≤ 256)
+    → walkOf a s at begin ≡ ended end
+    → (end .entries ≤ entryLimit) × (end .sum ≤ 256)
 unfolding entriesWithin foldOf
-walk-counts ro a s at begin end g h =
-    let l = walk-listed ro a s end at (intoRO begin) g h in
-    let n = few-by ro a (length s) s at (intoRO begin) (omega arith) in
-    (omega arith, omega arith, l .most)
+walk-counts a s at begin end few g h =
+    let l = walk-listed a s end at begin g h in
+    let n = few-by a (length s) s at begin few in
+    (omega arith, l .most)
 
 -- two lists in a row
 good-append : (n : ℕ) (l r : List Entry) → Good n l → Good (n + total l) r → Good n (l ++ r)
@@ -123,8 +135,8 @@ ends-all n (e ∷ l) (suc k) g h = omega (arith, ends-all (n + e .memory) l k (g
 pub record Map-accepted (count : ℕ) (rw ro : List ℕ) (n k c t : ℕ) : Type 0 where
   pub middle : State
   pub end : State
-  pub rw-ends : walkOf false (maskBytes count) rw 0 start ≡ ended middle
-  pub ro-ends : walkOf true (maskBytes count) ro 0 (intoRO middle) ≡ ended end
+  pub rw-ends : walkOf (maskBytes count) rw 0 start ≡ ended middle
+  pub ro-ends : walkOf (maskBytes count) ro 0 (intoRO middle) ≡ ended end
   pub rwCount : n ≡ length (rwEntries count rw)
   pub roCount : k ≡ length (roEntries count rw ro)
   pub staged : c ≡ total (rwEntries count rw)
@@ -136,30 +148,30 @@ pub record Map-accepted (count : ℕ) (rw ro : List ℕ) (n k c t : ℕ) : Type 
   pub sized : T (sized count rw ro)
   pub strings : stringsOf count rw ro ≡ accepted n k c t
 
-module _ (count : ℕ) (first last : List ℕ) (m e : State) (p : walkOf false (maskBytes count) first 0 start ≡ ended m)
-    (q : walkOf true (maskBytes count) last 0 (intoRO m) ≡ ended e) where
-  ro-entries : roEntries count first last ≡ entriesFrom true (maskBytes count) last 0 (intoRO m)
+module _ (count : ℕ) (first last : List ℕ) (m e : State) (p : walkOf (maskBytes count) first 0 start ≡ ended m)
+    (q : walkOf (maskBytes count) last 0 (intoRO m) ≡ ended e) where
+  ro-entries : roEntries count first last ≡ entriesFrom (maskBytes count) last 0 (intoRO m)
   unfolding roWithin
   ro-entries = rw p
 
-  both-ended : T (sized count first last) → stringsOf count first last ≡ accepted (m .number) (e .number - m .number) (m .sum) (e .sum)
-      → Map-accepted count first last (m .number) (e .number - m .number) (m .sum) (e .sum)
+  both-ended : T (sized count first last) → stringsOf count first last ≡ answer e
+      → Map-accepted count first last (e .before) (e .entries) (e .staged) (e .sum)
   unfolding rwWithin bothWithin
   both-ended z w =
-      let l = walk-listed false (maskBytes count) first m 0 start (omega arith) p in
-      let r = rw (← ro-entries) at (walk-listed true (maskBytes count) last e 0 (intoRO m) (l .most) q) in
+      let l = walk-listed (maskBytes count) first m 0 start (omega arith) p in
+      let r = rw (← ro-entries) at (walk-listed (maskBytes count) last e 0 (intoRO m) (l .most) q) in
       let t = total-append (rwEntries count first) (roEntries count first last) in
       let g : m .sum ≡ 0 + total (rwEntries count first) = omega arith in
-      let c = walk-counts false (maskBytes count) first 0 start m (omega arith) p in
-      let d = walk-counts true (maskBytes count) last 0 m e (l .most) q in
+      let c = walk-counts (maskBytes count) first 0 start m (omega arith) (omega arith) p in
+      let d = walk-counts (maskBytes count) last 0 (intoRO m) e (omega arith) (l .most) q in
       record {
         middle = m;
         end = e;
         rw-ends = p;
         ro-ends = q;
-        rwCount = omega arith;
+        rwCount = omega (arith, r .before);
         roCount = omega arith;
-        staged = omega arith;
+        staged = omega (arith, r .staged);
         active = omega arith;
         rw-good = l .good;
         good = good-append 0 (rwEntries count first) (roEntries count first last) (l .good) (rw g at (r .good));
@@ -172,40 +184,40 @@ module _ (count : ℕ) (first last : List ℕ) (m e : State) (p : walkOf false (
 strings-def :
     (count : ℕ) (first last : List ℕ)
     → stringsOf count first last
-    ≡ after (walkOf false (maskBytes count) first 0 start) (λ m. after (walkOf true (maskBytes count) last 0 (intoRO m)) (λ e. accepted (m .number) (e .number - m .number) (m .sum) (e .sum)))
-unfolding stringsWithin
+    ≡ after (walkOf (maskBytes count) first 0 start) (λ m. after (walkOf (maskBytes count) last 0 (intoRO m)) answer)
+unfolding stringsWithin restWithin
 strings-def count first last = refl
 
 module _ (count : ℕ) (first last : List ℕ) (n k c t : ℕ) where
   second :
       (m : State)
-      → walkOf false (maskBytes count) first 0 start ≡ ended m
+      → walkOf (maskBytes count) first 0 start ≡ ended m
       → T (sized count first last)
       → stringsOf count first last ≡ accepted n k c t
       → (w : Walked)
-      → walkOf true (maskBytes count) last 0 (intoRO m) ≡ w
-      → after w (λ e. accepted (m .number) (e .number - m .number) (m .sum) (e .sum)) ≡ accepted n k c t
+      → walkOf (maskBytes count) last 0 (intoRO m) ≡ w
+      → after w answer ≡ accepted n k c t
       → Map-accepted count first last n k c t
   second m p z y (stopped r) q h = let o : _≡_ {A = ℕ} 0 1 = cc in absurd (omega arith)
   second m p z y (ended e) q h =
-      let n1 : m .number ≡ n = cc in
-      let n2 : e .number - m .number ≡ k = cc in
-      let n3 : m .sum ≡ c = cc in
+      let n1 : e .before ≡ n = cc in
+      let n2 : e .entries ≡ k = cc in
+      let n3 : e .staged ≡ c = cc in
       let n4 : e .sum ≡ t = cc in
       rw (← n1, ← n2, ← n3, ← n4) (both-ended count first last m e p q z (y ∙ sym h))
 
   strings-accepted : T (sized count first last) → stringsOf count first last ≡ accepted n k c t → Map-accepted count first last n k c t
-  strings-accepted z h = go (walkOf false (maskBytes count) first 0 start) refl (split h)
+  strings-accepted z h = go (walkOf (maskBytes count) first 0 start) refl (split h)
     where
       split : stringsOf count first last ≡ accepted n k c t
-          → after (walkOf false (maskBytes count) first 0 start) (λ m. after (walkOf true (maskBytes count) last 0 (intoRO m)) (λ e. accepted (m .number) (e .number - m .number) (m .sum) (e .sum))) ≡ accepted n k c t
+          → after (walkOf (maskBytes count) first 0 start) (λ m. after (walkOf (maskBytes count) last 0 (intoRO m)) answer) ≡ accepted n k c t
       split x = sym (strings-def count first last) ∙ x
 
-      go : (w : Walked) → walkOf false (maskBytes count) first 0 start ≡ w
-          → after w (λ m. after (walkOf true (maskBytes count) last 0 (intoRO m)) (λ e. accepted (m .number) (e .number - m .number) (m .sum) (e .sum))) ≡ accepted n k c t
+      go : (w : Walked) → walkOf (maskBytes count) first 0 start ≡ w
+          → after w (λ m. after (walkOf (maskBytes count) last 0 (intoRO m)) answer) ≡ accepted n k c t
           → Map-accepted count first last n k c t
       go (stopped r) p x = let o : _≡_ {A = ℕ} 0 1 = cc in absurd (omega arith)
-      go (ended m) p x = second m p z h (walkOf true (maskBytes count) last 0 (intoRO m)) refl x
+      go (ended m) p x = second m p z h (walkOf (maskBytes count) last 0 (intoRO m)) refl x
 
   pub load-accepted : loadOf count first last ≡ accepted n k c t → Map-accepted count first last n k c t
   unfolding loadOf

@@ -1,7 +1,7 @@
 -- DEMAND 2: the place call and the owner call, on accepted strings, agree both ways.
 use mathlib.Core.Path.{_≡_, refl, sym, ap, _∙_}
 use mathlib.Core.Logic.{_⊎_, inl, inr}
-use mathlib.Core.Bool.{true, false, _&&_, not, cond}
+use mathlib.Core.Bool.{_&&_, not, cond}
 use mathlib.Core.List.{List, [], _∷_}
 use Prim.Native.Nat.{ℕ, zero, suc, _+_, _<_}
 use native.Mathlib.Omega.{arith}
@@ -180,8 +180,8 @@ module _ (count : ℕ) (first last : List ℕ) (ok : Accepted count first last) 
         accepted-values = λ e v. accepts-says (entry m e) v;
         shapes = λ e. shape-says (entry m e);
         signs = λ e. sign-says (entry m e);
-        rw-extras = filled-extras false (maskBytes count) first (rwEntries count first) (rw-filled count first last ok);
-        ro-extras = filled-extras true (maskBytes count) last (roEntries count first last) (ro-filled count first last ok);
+        rw-extras = filled-extras (maskBytes count) first (rwEntries count first) (rw-filled count first last ok);
+        ro-extras = filled-extras (maskBytes count) last (roEntries count first last) (ro-filled count first last ok);
       }
     where
       lowest : (s e p i k q : ℕ) → placeOf count first last s e p i ≡ placedAt k q → PlaceCovers count first last s e p i k q

@@ -2,7 +2,7 @@
 use Rattle.rules.specs.Demands.{Demand1}
 use Rattle.rules.proofs.Refusals.EntryRules.{entry-says}
 use Rattle.rules.proofs.Refusals.MediaSide.{way-media}
-use Rattle.rules.proofs.Refusals.EntryNumbers.{way-numbers}
+use Rattle.rules.proofs.Refusals.EntryNumbers.{rw-numbers, ro-numbers}
 use Rattle.rules.proofs.Refusals.Refused.{call-says, fresh-says, load-says, place-says, owner-says, own-entry-says, weight-says}
 use Rattle.rules.proofs.Load.EntryBytes.{part-empty}
 use Rattle.rules.proofs.Refusals.ReaderRules.{take-says, take-end-says}
@@ -13,7 +13,8 @@ refusals count rw ro b =
     record {
       one-entry = entry-says;
       media = way-media;
-      numbers = way-numbers;
+      rw-numbers = rw-numbers;
+      ro-numbers = ro-numbers;
       call = call-says count rw ro b;
       fresh = fresh-says count rw ro b;
       load = load-says count rw ro;

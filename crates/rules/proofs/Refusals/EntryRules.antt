@@ -74,20 +74,20 @@ module _ (a : ℕ) (s : List ℕ) (at : ℕ) (st : State) where
       let m : Bool = entryAt a s at (st .sum) .media in
       and-says₄ (leb 2 id) (leb id 8) (not m) (st .media) (le-says 2 id) (le-says id 8) (not-says m media-says) (true-says (st .media))
 
-  entry-fails : (ro : Bool) → Fails (decodeAt ro a s at st) (entryRules ro a s at st)
+  entry-fails : Fails (decodeAt a s at st) (entryRules a s at st)
   unfolding decodeWithin lengthChecks contentChecks
-  entry-fails ro =
+  entry-fails =
       let e : Entry = entryAt a s at (st .sum) in
       let left : ℕ = length s - at in
-      before _ 16 (le-says (st .first + 16) (st .number))
+      before _ 16 (le-says 16 (st .entries))
       (before _ 1 (or-says (eqb left 1) (ltb left (e .length)) (eq-says left 1) (lt-says left (e .length)))
       (before _ 2 (least-says (e .id) a (e .length))
-      (before _ 3 (side-says ro (e .id))
+      (before _ 3 (side-says (st .ro) (e .id))
       (before _ 4 (needed-says (e .id) (e .memory))
       (before _ 5 (step-says (e .id) s (at + 4 + a))
       (before _ 6 late-says
       (before _ 7 (lt-says 256 (st .sum + e .memory))
       (passed-all e))))))))
 
-pub entry-says : (ro : Bool) (a : ℕ) (s : List ℕ) (at : ℕ) (st : State) (n : ℕ) → (decodeAt ro a s at st ≡ failed n) ↔ First (entryRules ro a s at st) n
-entry-says ro a s at st = entry-fails a s at st ro .is
+pub entry-says : (a : ℕ) (s : List ℕ) (at : ℕ) (st : State) (n : ℕ) → (decodeAt a s at st ≡ failed n) ↔ First (entryRules a s at st) n
+entry-says a s at st = entry-fails a s at st .is

@@ -1,7 +1,7 @@
 -- The state of a walk says whether a media-side table entry has been passed.
 use mathlib.Core.Path.{_≡_}
 use mathlib.Core.Logic.{_⊎_, inl, inr, ⊎-elim, _↔_, Iff·symm, Iff·trans}
-use mathlib.Core.Bool.{Bool, true, false, _||_}
+use mathlib.Core.Bool.{Bool, true, _||_}
 use mathlib.Core.List.{List}
 use Prim.Native.Nat.{ℕ}
 use lib.Dec.{T}
@@ -20,15 +20,15 @@ or-first x y h = (
   ⊎-elim (λ t. inl (or-left x y t)) (⊎-elim (λ u. inl (or-right x y (h .1 u))) inr),
 )
 
-module _ (ro : Bool) (a : ℕ) (s : List ℕ) where
-  decode-media : (at : ℕ) (st : State) (e : Entry) → decodeAt ro a s at st ≡ decoded e → T (e .media) ↔ MediaSide a s at
-  decode-media at st e d = rw (decode-passed ro a s at st e d .entry) (media-says a s at st)
+module _ (a : ℕ) (s : List ℕ) where
+  decode-media : (at : ℕ) (st : State) (e : Entry) → decodeAt a s at st ≡ decoded e → T (e .media) ↔ MediaSide a s at
+  decode-media at st e d = rw (decode-passed a s at st e d .entry) (media-says a s at st)
 
   -- it said so at the beginning of the way, or one is passed on the way
-  way-says : {to : ℕ} {end : State} {from : ℕ} {begin : State} (w : Way ro a s to end from begin) → T (end .media) ↔ (T (begin .media) ⊎ PastMedia w)
+  way-says : {to : ℕ} {end : State} {from : ℕ} {begin : State} (w : Way a s to end from begin) → T (end .media) ↔ (T (begin .media) ⊎ PastMedia w)
   way-says here = (inl, ⊎-elim (λ h. h) (λ h. absurd h))
   way-says (past {at} {st} e l d w) = Iff·trans (way-says w) (or-first (st .media) (e .media) (decode-media at st e d))
 
-pub way-media : (a : ℕ) (s : List ℕ) (at : ℕ) (st : State) (w : Way false a s at st 0 start) → (st .media ≡ true) ↔ PastMedia w
+pub way-media : (a : ℕ) (s : List ℕ) (at : ℕ) (st : State) (w : Way a s at st 0 start) → (st .media ≡ true) ↔ PastMedia w
 way-media a s at st w =
-    Iff·trans (Iff·symm (true-says (st .media))) (Iff·trans (way-says false a s w) (⊎-elim (λ h. absurd h) (λ h. h), inr))
+    Iff·trans (Iff·symm (true-says (st .media))) (Iff·trans (way-says a s w) (⊎-elim (λ h. absurd h) (λ h. h), inr))

@@ -1,7 +1,7 @@
 -- A small module on which both machines are run by computing. It also shows that the premises of demand 3 and of note 7 can be met.
 use mathlib.Core.Path.{_≡_, refl, sym, _∙_}
 use mathlib.Core.List.{List, [], _∷_, map}
-use mathlib.Core.Bool.{true, false}
+use mathlib.Core.Bool.{false}
 use Prim.Native.Nat.{ℕ, _+_}
 use native.Mathlib.Omega.{arith}
 use lib.IntN.{pos, negsuc}
@@ -10,7 +10,7 @@ use Rattle.rules.specs.Words.{plain, atLane, State, ended, Call, select,
 use Rattle.rules.specs.Numbers.{sum, any, lowest}
 use Rattle.rules.specs.Parameter.{rowOf}
 use Rattle.rules.specs.Descriptor.{maskBytes, highFirst, codesOf, byteOf, refuse, lengthChecks, contentChecks, unlimited, decodeWithin}
-use Rattle.rules.specs.Load.{start, intoRO, foldBy, foldOf, loadOf, total, bothWithin, entriesWithin, mapWithin, roWithin, rwWithin, stringsWithin, walkWithin}
+use Rattle.rules.specs.Load.{start, intoRO, foldBy, foldOf, loadOf, total, bothWithin, entriesWithin, mapWithin, roWithin, rwWithin, restWithin, stringsWithin, walkWithin}
 use Rattle.rules.specs.Place.{partsOf, widthOf, signedOf, heldBy, lengthOf, firstOwner, ownerOf}
 use Rattle.rules.specs.Accept.{within, inMask, takes, accepts, toBits, fromBits}
 use Rattle.rules.specs.Refuse.{check9, check8, checkEntries, exists, misdirected, unaccepted, judge, atLowest, bankOrder, orderOf}
@@ -114,17 +114,17 @@ answers =
     ∷ []
 
 example-accepted : Accepted 2 rwString roString
-unfolding rowOf maskBytes highFirst codesOf byteOf refuse lengthChecks contentChecks decodeWithin foldBy foldOf walkWithin stringsWithin loadOf
+unfolding rowOf maskBytes highFirst codesOf byteOf refuse lengthChecks contentChecks decodeWithin foldBy foldOf walkWithin restWithin stringsWithin loadOf
 example-accepted = record { rwCount = 4; roCount = 1; staged = 16; active = 24; loads = refl }
 
 -- the bank machine, computed
 pub example-bank : bankRun 2 rwString roString bank (map call calls) .0 ≡ answers
-unfolding sum any lowest rowOf maskBytes highFirst codesOf byteOf refuse lengthChecks contentChecks decodeWithin foldBy foldOf walkWithin entriesWithin stringsWithin loadOf rwWithin roWithin bothWithin total mapWithin partsOf widthOf signedOf heldBy lengthOf firstOwner ownerOf within inMask takes accepts toBits fromBits check9 check8 checkEntries exists misdirected unaccepted judge atLowest bankOrder getField putField numberIn withNumber fieldBits bankLacksApp bankCopies bankHoldsBad bankPlan loop copyField applyBank bankDoes bankCall freshBank freshCall bankMakes run bankSize setStart appSelStart appSelAt
+unfolding sum any lowest rowOf maskBytes highFirst codesOf byteOf refuse lengthChecks contentChecks decodeWithin foldBy foldOf walkWithin entriesWithin restWithin stringsWithin loadOf rwWithin roWithin bothWithin total mapWithin partsOf widthOf signedOf heldBy lengthOf firstOwner ownerOf within inMask takes accepts toBits fromBits check9 check8 checkEntries exists misdirected unaccepted judge atLowest bankOrder getField putField numberIn withNumber fieldBits bankLacksApp bankCopies bankHoldsBad bankPlan loop copyField applyBank bankDoes bankCall freshBank freshCall bankMakes run bankSize setStart appSelStart appSelAt
 example-bank = refl
 
 -- the plain table, computed
 pub example-table : tableRun 2 rwString roString (map call calls) .0 ≡ answers
-unfolding sum any lowest rowOf maskBytes highFirst codesOf byteOf refuse lengthChecks contentChecks decodeWithin foldBy foldOf walkWithin entriesWithin stringsWithin loadOf rwWithin roWithin bothWithin total mapWithin partsOf widthOf signedOf heldBy lengthOf within inMask takes accepts toBits fromBits check9 checkEntries exists misdirected unaccepted judge atLowest orderOf byteFrom tableLacksApp tableCopies tableHoldsBad tablePlan tableDoes tableCall tableMakes run hasBytes
+unfolding sum any lowest rowOf maskBytes highFirst codesOf byteOf refuse lengthChecks contentChecks decodeWithin foldBy foldOf walkWithin entriesWithin restWithin stringsWithin loadOf rwWithin roWithin bothWithin total mapWithin partsOf widthOf signedOf heldBy lengthOf within inMask takes accepts toBits fromBits check9 checkEntries exists misdirected unaccepted judge atLowest orderOf byteFrom tableLacksApp tableCopies tableHoldsBad tablePlan tableDoes tableCall tableMakes run hasBytes
 example-table = refl
 
 -- demand 3 of this module, bank and list: its premises are met
@@ -133,17 +133,17 @@ example-agrees = lists-agree 2 rwString roString bank example-accepted (rw (leng
 
 -- walks without a limit come to 4 RW entries, and then to 1 RO entry
 abbrev middle : State
-middle = record { number = 4; first = 0; sum = 16; media = false }
+middle = record { ro = false; media = false; entries = 4; before = 0; sum = 16; staged = 0 }
 
-rw-ends : walkWithin unlimited false (maskBytes 2) rwString 0 start ≡ ended middle
+rw-ends : walkWithin unlimited (maskBytes 2) rwString 0 start ≡ ended middle
 unfolding rowOf maskBytes highFirst codesOf byteOf refuse lengthChecks contentChecks decodeWithin foldBy foldOf walkWithin
 rw-ends = refl
 
-rw-comes : comesTo false (maskBytes 2) rwString start ≡ 4
+rw-comes : comesTo (maskBytes 2) rwString start ≡ 4
 unfolding rowOf maskBytes highFirst codesOf byteOf refuse lengthChecks contentChecks decodeWithin foldBy foldOf
 rw-comes = refl
 
-ro-comes : comesTo true (maskBytes 2) roString (intoRO middle) ≡ 1
+ro-comes : comesTo (maskBytes 2) roString (intoRO middle) ≡ 1
 unfolding rowOf maskBytes highFirst codesOf byteOf refuse lengthChecks contentChecks decodeWithin foldBy foldOf
 ro-comes = refl
 

@@ -8,7 +8,7 @@ use borrow.Author.Tests.{lt-ltb, le-leb, lt-leb, ne-eqb}
 use Rattle.rules.specs.Words.{Entry}
 use Rattle.rules.specs.Parameter.{rowOf}
 use Rattle.rules.specs.Descriptor.{maskBytes, highFirst, codesOf, byteOf, refuse, lengthChecks, contentChecks, hasApp, decodeWithin}
-use Rattle.rules.specs.Load.{foldBy, foldOf, loadOf, stringsWithin, walkWithin}
+use Rattle.rules.specs.Load.{foldBy, foldOf, loadOf, restWithin, stringsWithin, walkWithin}
 use Rattle.rules.specs.Place.{widthOf}
 use Rattle.rules.specs.Accept.{within, inMask, takes, accepts, toBits, fromBits, weightOf}
 use Rattle.rules.specs.Demands.{Twelve}
@@ -35,7 +35,7 @@ unfolding widthOf
 width-of e id q = rw q
 
 pub settings : Twelve
-unfolding rowOf maskBytes highFirst codesOf byteOf refuse lengthChecks contentChecks decodeWithin foldBy foldOf walkWithin stringsWithin loadOf within inMask takes accepts toBits fromBits weightOf
+unfolding rowOf maskBytes highFirst codesOf byteOf refuse lengthChecks contentChecks decodeWithin foldBy foldOf walkWithin restWithin stringsWithin loadOf within inMask takes accepts toBits fromBits weightOf
 settings =
     record {
       P1 = apps-of-0B;

@@ -22,7 +22,7 @@ more : (c : tie.Else1) → let g = c .before .before .args in eqb (length (now (
 more c = let g = c .before .before .args in ne-eqb (length (now (g .s)) - g .at) 1 (λ q. c .if1 .left (omega arith))
 
 -- 1 is passed
-one : (c : tie.Else2) → let g = c .before .before .before .before .args in overruns (length (now (g .s)) - g .at) (entryAt (g .a) (now (g .s)) (g .at) (g .st .sum)) ≡ false
+one : (c : tie.Else2) → let g = c .before .before .before .before .args in overruns (length (now (g .s)) - g .at) (entryAt (g .a) (now (g .s)) (g .at) (g .c .sum)) ≡ false
 one c =
     let g = c .before .before .before .before .args in
     rw (more (c .before .before), le-ltb (length (now (g .s)) - g .at) (byteAt (now (g .s)) (g .at + 1)) (omega (arith, c .if2 .left))) refl
@@ -100,8 +100,8 @@ content-requires c κs =
       mask-top = b .pre .0 .mask-top;
       room = omega (arith, c .if3 .left, k .before .before .before .if2 .left);
       short = b .pre .0 .short;
-      number = b .pre .1;
-      sum = b .pre .0 .sum;
+      few = b .pre .1;
+      small = b .pre .0 .small;
     }
 
 returns-4 : tie.Need-returns-4

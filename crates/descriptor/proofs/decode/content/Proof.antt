@@ -12,6 +12,7 @@ use Rattle.rules.specs.Parameter.{rowOf, step}
 use Rattle.rules.specs.declared.Decoded.{Decoded}
 use Rattle.rules.specs.Descriptor.{byteAt, positionOf, byteOf, entryAt, mediaSide, mayStand, reserved, refuse, contentChecks}
 use Rattle.descriptor.specs.declared.decode.Decoding.{Decoding}
+use Rattle.descriptor.specs.Counts.{alone}
 use Rattle.descriptor.specs.Decode.{decodingOf}
 use Rattle.descriptor.proofs.Chain.{pass, stop, side-is, memory-in, flags-in, step-in, media-is, needed-small, needed-is, step-is}
 use Rattle.descriptor.proofs.decode.content.Statement.{statement}
@@ -54,8 +55,8 @@ past-five :
     (c : tie.After-shared-slice-known3) →
     let g = c .before .before .before .before .before .before .before .before .before .args in
     (r : Decoding) (d : Decoded)
-    → r ≡ decodingOf (g .at) (g .st) d
-    → r ≡ decodingOf (g .at) (g .st) (refuse (not (mayStand (rowOf (byteAt (now (g .s)) (g .at)) .side) (g .in-ro))) 3 (refuse (ltb (byteAt (now (g .s)) (g .at + 2 + g .a)) (rowOf (byteAt (now (g .s)) (g .at)) .needed)) 4 (refuse (reserved (rowOf (byteAt (now (g .s)) (g .at)) .steps) (byteOf (positionOf step (rowOf (byteAt (now (g .s)) (g .at)) .extras)) (now (g .s)) (g .at + 4 + g .a))) 5 d)))
+    → r ≡ decodingOf (g .at) (alone (g .in-ro) (g .c)) d
+    → r ≡ decodingOf (g .at) (alone (g .in-ro) (g .c)) (refuse (not (mayStand (rowOf (byteAt (now (g .s)) (g .at)) .side) (g .in-ro))) 3 (refuse (ltb (byteAt (now (g .s)) (g .at + 2 + g .a)) (rowOf (byteAt (now (g .s)) (g .at)) .needed)) 4 (refuse (reserved (rowOf (byteAt (now (g .s)) (g .at)) .steps) (byteOf (positionOf step (rowOf (byteAt (now (g .s)) (g .at)) .extras)) (now (g .s)) (g .at + 4 + g .a))) 5 d)))
 past-five c r d h =
     let e3 = c .before .before in
     let e2 = e3 .before .before in
@@ -133,7 +134,7 @@ unfolding contentChecks
 returns-4 c = let k = c .before in let y = k .before in past-five y _ _ (rw (← media (y .before)) (stop _ _ _ _ (sym (k .late-host .ensures) ∙ c .if4 .taken)))
 
 add-if5 : tie.Need-add-if5
-add-if5 c = omega (arith, memory-lt (c .before .before .before .before .before .before .before .before), c .before .before .before .before .before .before .before .before .before .before .before .before .pre .sum)
+add-if5 c = omega (arith, memory-lt (c .before .before .before .before .before .before .before .before), c .before .before .before .before .before .before .before .before .before .before .before .before .pre .small .sum)
 
 returns-5 : tie.Need-returns-5
 unfolding contentChecks
@@ -141,7 +142,7 @@ returns-5 c =
     let e4 = c .before .before in
     let y = e4 .before .before in
     let g = y .before .before .before .before .before .before .before .before .before .args in
-    past-five y _ _ (pass _ _ _ _ (rw (← media (y .before)) (sym (e4 .before .late-host .ensures) ∙ e4 .if4 .left)) (stop _ _ _ _ (lt-ltb 256 (g .st .sum + byteAt (now (g .s)) (g .at + 2 + g .a)) (omega (arith, c .if5 .taken)))))
+    past-five y _ _ (pass _ _ _ _ (rw (← media (y .before)) (sym (e4 .before .late-host .ensures) ∙ e4 .if4 .left)) (stop _ _ _ _ (lt-ltb 256 (g .c .sum + byteAt (now (g .s)) (g .at + 2 + g .a)) (omega (arith, c .if5 .taken)))))
 
 add-t16 : tie.Need-add-t16
 add-t16 c = search needs
@@ -158,7 +159,7 @@ add-t27 c = let b = c .before .before .before .before .before .before .before .b
 next-requires : tie.Need-next-requires
 next-requires c κs =
     let e5 = c .before in
-    (e5 .before .before .before .before .before .before .before .before .before .before .before .before .before .pre .number, e5 .if5 .left)
+    (e5 .before .before .before .before .before .before .before .before .before .before .before .before .before .pre .few, e5 .if5 .left)
 
 returns-6 : tie.Need-returns-6
 unfolding contentChecks
@@ -167,8 +168,8 @@ returns-6 c =
     let e4 = e5 .before .before in
     let y = e4 .before .before in
     let g = y .before .before .before .before .before .before .before .before .before .args in
-    let after = c .next .ensures (entryAt (g .a) (now (g .s)) (g .at) (g .st .sum)) refl (sym (media (y .before))) in
-    past-five y _ _ (pass _ _ _ _ (rw (← media (y .before)) (sym (e4 .before .late-host .ensures) ∙ e4 .if4 .left)) (pass _ _ _ _ (le-ltb 256 (g .st .sum + byteAt (now (g .s)) (g .at + 2 + g .a)) (omega (arith, e5 .if5 .left))) (rw after refl)))
+    let after = c .next .ensures (g .in-ro) (entryAt (g .a) (now (g .s)) (g .at) (g .c .sum)) refl (sym (media (y .before))) in
+    past-five y _ _ (pass _ _ _ _ (rw (← media (y .before)) (sym (e4 .before .late-host .ensures) ∙ e4 .if4 .left)) (pass _ _ _ _ (le-ltb 256 (g .c .sum + byteAt (now (g .s)) (g .at + 2 + g .a)) (omega (arith, e5 .if5 .left))) (rw after refl)))
 
 pub content-spec : {M : Type 1} → statement M
 content-spec =

@@ -11,7 +11,7 @@ add-t5 : tie.Need-add-t5
 add-t5 c = search needs
 
 returns : tie.Need-returns
-returns c e p q = rw (p, q) refl
+returns c ro e p q = rw (p, q) refl
 
 pub next-spec : {M : Type 1} → statement M
 next-spec = tie.close (tie.spec add-t4 add-t5 returns)

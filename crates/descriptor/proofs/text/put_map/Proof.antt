@@ -26,17 +26,14 @@ put-entries-requires c κs =
     let k = t .before .before .before in
     let b = k .before .before .before in
     let z = sizes _ _ _ (b .pre) in (
-      rw (c .before .start .ensures)
-          (record {
-            classes-is = refl;
-            table-is = refl;
-            mask-low = k .mask-bytes .ensures .1;
-            mask-top = k .mask-bytes .ensures .2;
-            short = z .rw;
-            first = omega arith;
-            sum = omega arith;
-          }),
-      omega (arith, t .put-text .ensures .next, z .rw),
+      record {
+        classes-is = refl;
+        table-is = refl;
+        mask-low = k .mask-bytes .ensures .1;
+        mask-top = k .mask-bytes .ensures .2;
+        short = z .rw;
+      },
+      (rw (c .before .start .ensures) (omega arith, omega arith), omega (arith, t .put-text .ensures .next, z .rw)),
     )
 
 into-ro-requires : tie.Need-into-ro-requires
@@ -51,22 +48,28 @@ put-entries-requires-2 c κs =
     let one = rw (k .mask-bytes .ensures .0, x .before .before .start .ensures) at (x .put-entries .ensures) in
     let z = sizes _ _ _ (b .pre) in
     let m = middle _ _ _ (b .pre) one in (
-      rw (c .before .into-ro .ensures)
-          (record {
-            classes-is = refl;
-            table-is = refl;
-            mask-low = k .mask-bytes .ensures .1;
-            mask-top = k .mask-bytes .ensures .2;
-            short = z .ro;
-            first = m .number;
-            sum = m .sum;
-          }),
-      omega (arith, t .put-text .ensures .next, x .put-entries .ensures .put .next, x .put-entries .ensures .put .room, z .rw, z .ro),
+      record {
+        classes-is = refl;
+        table-is = refl;
+        mask-low = k .mask-bytes .ensures .1;
+        mask-top = k .mask-bytes .ensures .2;
+        short = z .ro;
+      },
+      (
+        rw (c .before .into-ro .ensures) (m .few, m .sum),
+        omega (arith, t .put-text .ensures .next, x .put-entries .ensures .put .next, x .put-entries .ensures .put .room, z .rw, z .ro),
+      ),
     )
+
+cast-put-end : tie.Need-cast-put-end
+cast-put-end c = search needs
+
+cast-put-end-2 : tie.Need-cast-put-end-2
+cast-put-end-2 c = search needs
 
 put-end-requires : tie.Need-put-end-requires
 put-end-requires c κs =
-    let y = c .before .before in
+    let y = c .before .before .before .before in
     let x = y .before .before .before .before .before .before in
     let t = x .before .before .before .before .before in
     let k = t .before .before .before in
@@ -87,7 +90,7 @@ size c = search needs
 
 returns : tie.Need-returns
 returns c =
-    let y = c .before .before .before in
+    let y = c .before .before .before .before .before in
     let x = y .before .before .before .before .before .before in
     let t = x .before .before .before .before .before in
     let k = t .before .before .before in
@@ -107,5 +110,7 @@ put-map-spec =
     put-entries-requires
     into-ro-requires
     put-entries-requires-2
+    cast-put-end
+    cast-put-end-2
     put-end-requires
     returns)
