@@ -8,14 +8,14 @@ use std::time::Instant;
 
 use crate::any_map;
 use crate::calls::bank::{APPLY, BYTE_READ, BYTE_WRITE, FRESH, PERFORM, PUBLISH, READ, SELECT, WEIGHT, WRITE};
-use crate::calls::{entry, load, owner, place, take};
+use crate::calls::{entry, load, owner, place, resume, take};
 use crate::case::Case;
-use crate::engine::{self, app_sels, FlatCall, BANK_SIZE};
+use crate::engine::{self, app_sels, FlatCall, State, BANK_SIZE};
 use crate::fixed::hex;
 use crate::peer;
 use crate::random::Random;
 use crate::report::Answer;
-use crate::strings::Flat;
+use crate::strings::{Flat, RO, RW};
 use crate::tally::Row;
 use crate::valid;
 
@@ -76,12 +76,22 @@ const MAPS: [Named; 3] = [
     },
 ];
 
-/// The arguments of every call; each reads its own.
+/// The arguments of every call; each reads its own. The strings are lent from these places on, where a load that was broken
+/// off has the state.
 #[derive(Clone, Copy, Debug)]
 struct Args {
     call: FlatCall,
     bit: usize,
     position: usize,
+    from: [usize; 2],
+    state: State,
+}
+
+impl Args {
+    fn lent<'a>(&self, map: &'a Flat) -> Case<'a> {
+        let Case { count, rw, ro } = map.case();
+        Case { count, rw: &rw[self.from[RW]..], ro: &ro[self.from[RO]..] }
+    }
 }
 
 impl Deref for Args {
@@ -99,10 +109,11 @@ struct Input {
     args: Args,
 }
 
-/// A timed map with its bank, and arguments that name a field of a staged and of the active set.
+/// A timed map with its entries and bank, and arguments that name a field of a staged and of the active set.
 struct Subject {
     name: &'static str,
     map: Flat,
+    entries: usize,
     bank: Vec<u8>,
     staged: Args,
     active: Args,
@@ -117,11 +128,29 @@ impl Subject {
             let position = engine::entry(case.count, case.rw, case.ro, entry).start;
             let call =
                 FlatCall { kind: 1, set, entry, part: 0, lane: LANE, offset, app: APP, value, byte: 0x21, lanes: 0xFF };
-            Args { call, bit: 4, position }
+            Args { call, bit: 4, position, from: [0, 0], state: State::default() }
         };
         let (staged, active) = (args(0, named.written), args(2, named.published));
         let bank = planned(&case);
-        Subject { name: named.name, map, bank, staged, active }
+        let entries = engine::load(case.count, case.rw, case.ro).entries();
+        Subject { name: named.name, map, entries, bank, staged, active }
+    }
+
+    /// Arguments that name a field of this entry in the active set.
+    fn naming(&self, entry: usize) -> Args {
+        Args { call: FlatCall { entry, ..self.active.call }, ..self.active }
+    }
+
+    /// Arguments of a load that was broken off after so many entries.
+    fn after(&self, entries: usize) -> Args {
+        let mut args = self.staged;
+        for _ in 0..entries {
+            let Case { count, rw, ro } = args.lent(&self.map);
+            let passed = engine::pass(count, rw, ro, args.state);
+            args.state = passed.state;
+            args.from[usize::from(passed.state.string)] += passed.length;
+        }
+        args
     }
 }
 
@@ -199,7 +228,9 @@ fn varied_args(random: &Random, case: &Case) -> Args {
         byte: random.byte(),
         lanes: random.pick(&[0, 0xFF, 1 << random.below(8), random.byte()]),
     };
-    Args { call, bit: random.about(8), position: random.about(case.rw.len() + 1) }
+    let (bit, position) = (random.about(8), random.about(case.rw.len() + 1));
+    let state = if random.once_in(4) { State::default() } else { resume::any_state(random) };
+    Args { call, bit, position, from: [0, 0], state }
 }
 
 /// A call's times: for each map, engine and peer.
@@ -231,7 +262,8 @@ impl Bench {
             self.lines.len() - 1
         });
         for (subject, least) in self.subjects.iter().zip(&mut self.lines[line].times) {
-            let (case, mut bank, args) = (subject.map.case(), subject.bank.clone(), args(subject));
+            let (mut bank, args) = (subject.bank.clone(), args(subject));
+            let case = args.lent(&subject.map);
             let mut times = [Vec::new(), Vec::new()];
             for _ in 0..SAMPLES {
                 times[0].push(sample(|| engine(black_box(&case), black_box(&mut bank), black_box(&args))));
@@ -254,7 +286,7 @@ impl Bench {
         peer: impl Fn(&Case, &mut [u8], &Args) -> A,
     ) {
         let agreed = |map: &Flat, bank: &[u8], args: &Args| {
-            let case = map.case();
+            let case = args.lent(map);
             let mut banks = [bank.to_vec(), bank.to_vec()];
             let answers = [engine(&case, &mut banks[0], args), peer(&case, &mut banks[1], args)];
             let equal = answers[0] == answers[1] && banks[0] == banks[1];
@@ -270,15 +302,13 @@ impl Bench {
     }
 
     fn print(&self) {
-        print!("{:<18}", "");
-        for Subject { name, map, .. } in &self.subjects {
-            let case = map.case();
-            let entries = engine::load(case.count, case.rw, case.ro).entries();
+        print!("{:<20}", "");
+        for Subject { name, entries, .. } in &self.subjects {
             print!("{:>24}", format!("{name}, {entries} entries"));
         }
-        println!("\n{:<18}{}", "nanoseconds", "   engine    peer  ratio".repeat(self.subjects.len()));
+        println!("\n{:<20}{}", "nanoseconds", "   engine    peer  ratio".repeat(self.subjects.len()));
         for Line { name, times } in &self.lines {
-            print!("{name:<18}");
+            print!("{name:<20}");
             for [engine, peer] in times {
                 print!("{engine:>9.1}{peer:>8.1}{:>7.2}", engine / peer);
             }
@@ -326,7 +356,8 @@ pub fn run() {
     bench.print();
 }
 
-/// Every call once.
+/// Every call once; then entry and read for the first, the middle and the last of all entries, which have fields, and a load
+/// that was broken off there.
 #[rustfmt::skip]
 fn rows(bench: &mut Bench) {
     let staged = |subject: &Subject| subject.staged;
@@ -354,4 +385,23 @@ fn rows(bench: &mut Bench) {
         |case, _, a| peer::take(case.count, case.rw, a.position),
     );
     row!(bench, "perform (write)", PERFORM, staged, |bank, a| perform(bank, a.call));
+
+    let first = |subject: &Subject| subject.naming(0);
+    let middle = |subject: &Subject| subject.naming(subject.entries / 2);
+    let last = |subject: &Subject| subject.naming(subject.entries - 1);
+    row!(bench, "entry, first entry", entry::CALL, first, |_, a| entry(a.entry));
+    row!(bench, "entry, middle entry", entry::CALL, middle, |_, a| entry(a.entry));
+    row!(bench, "entry, last entry", entry::CALL, last, |_, a| entry(a.entry));
+    row!(bench, "read, first entry", READ, first, |bank, a| read(bank, a.set, a.entry, a.part, a.lane));
+    row!(bench, "read, middle entry", READ, middle, |bank, a| read(bank, a.set, a.entry, a.part, a.lane));
+    row!(bench, "read, last entry", READ, last, |bank, a| read(bank, a.set, a.entry, a.part, a.lane));
+
+    let before_middle = |subject: &Subject| subject.after(subject.entries / 2);
+    let before_last = |subject: &Subject| subject.after(subject.entries - 1);
+    row!(bench, "pass, first entry", resume::PASS, staged, |_, a| pass(a.state));
+    row!(bench, "pass, middle entry", resume::PASS, before_middle, |_, a| pass(a.state));
+    row!(bench, "pass, last entry", resume::PASS, before_last, |_, a| pass(a.state));
+    row!(bench, "resume, from 0", resume::RESUME, staged, |_, a| resume(a.state));
+    row!(bench, "resume, from middle", resume::RESUME, before_middle, |_, a| resume(a.state));
+    row!(bench, "resume, last entry", resume::RESUME, before_last, |_, a| resume(a.state));
 }

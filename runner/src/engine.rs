@@ -58,7 +58,7 @@ macro_rules! refused {
     )*};
 }
 
-refused! { Loaded Located Placed Owned Answered }
+refused! { Loaded Passed Located Placed Owned Answered }
 
 /// The number of the second program's refusal and the entry or lane that it names, as the engine answers them.
 fn reason(refusal: second::Refusal) -> (usize, usize) {
@@ -81,4 +81,4 @@ macro_rules! answers {
     )*};
 }
 
-answers! { Loaded Located Placed Owned Answered Taken }
+answers! { Loaded Passed Located Placed Owned Answered Taken }

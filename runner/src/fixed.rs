@@ -42,11 +42,11 @@ const BASE: [&str; 2] = [
 ];
 
 /// Both entry counts, staged and active length.
-fn accepted(rw_count: usize, ro_count: usize, staged_length: usize, active_length: usize) -> Loaded {
+pub fn accepted(rw_count: usize, ro_count: usize, staged_length: usize, active_length: usize) -> Loaded {
     Loaded { refusal: 0, at: 0, rw_count, ro_count, staged_length, active_length }
 }
 
-fn refused(number: usize, at: usize) -> Loaded {
+pub fn refused(number: usize, at: usize) -> Loaded {
     Loaded::refused(number, at)
 }
 

@@ -1,6 +1,7 @@
 //! Compares the engine with the second program (no word), or times it against the plain peer (`bench`).
 
 mod bench;
+mod broken_off;
 mod calls;
 mod case;
 mod damaged;
@@ -58,6 +59,7 @@ fn compare() -> bool {
     let mut report = Report::new(&calls);
 
     fixed::compare(&mut report);
+    broken_off::compare(&mut report);
     for seed in 0..WHOLE_MAPS {
         calls::compare_all(&mut report, &valid::valid(&Random::new(seed)).flat().case(), &[]);
         calls::compare_all(&mut report, &damaged::damaged(&Random::new(seed)).case(), &[]);

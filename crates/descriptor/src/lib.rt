@@ -72,7 +72,23 @@ pub fn limits(count: usize, rw: &[u8], ro: &[u8]) -> bool
 pub fn load(count: usize, rw: &[u8], ro: &[u8]) -> Loaded
     ensures { λ r. ⌜ r ≡ loadOf count (now (rw .entry)) (now (ro .entry)) ⌝ }
 {
-    resume(count, rw, ro, start())
+    let loaded = resume(count, rw, ro, start());
+    let Loaded::Accepted {
+        rw_count,
+        ro_count,
+        staged_length,
+        active_length,
+    } = loaded
+    else {
+        return loaded;
+    };
+    // Made anew: the answer handed on as a whole is copied by wide moves.
+    Loaded::Accepted {
+        rw_count,
+        ro_count,
+        staged_length,
+        active_length,
+    }
 }
 
 // The load taken up again: given what it kept after an entry, and the bytes not yet read, it answers what the load answers. In the RW string

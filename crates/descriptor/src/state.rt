@@ -1,5 +1,4 @@
-// What a walk keeps between two entries, made here alone: at the beginning, past an entry, and into the RO string. Within a string only the
-// counts change.
+// What a walk keeps between two entries: at the beginning, past an entry, and into the RO string. Within a string only the counts change.
 ghost use mathlib.Core.Path.{_≡_};
 ghost use mathlib.Core.Bool.{Bool};
 ghost use Prim.Native.Nat.{_+_, _≤_, _<_};

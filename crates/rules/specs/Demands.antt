@@ -287,6 +287,10 @@ passes (rejected (plain n)) = 0
 passes (rejected (atEntry n e)) = e
 passes (rejected (atLane n i)) = 0
 
+-- n bytes of a string with its whole first entry, whose Length is the second byte
+abbrev pub WholeEntry : ℕ → List ℕ → Type 0
+WholeEntry n s = (2 ≤ n) × (byteAt s 1 ≤ n) × (n ≤ length s)
+
 pub record TakenUp (count : ℕ) (rw ro : List ℕ) : Type 0 where
   -- the load goes on from the beginning
   pub begins : loadOf count rw ro ≡ resumeOf count start rw ro
@@ -297,28 +301,9 @@ pub record TakenUp (count : ℕ) (rw ro : List ℕ) : Type 0 where
   -- taken up in any state, with any bytes, and broken off again: so often as one likes
   pub again : (st : State) (k : ℕ) → resumeAt count (further count k (record { kept = st; rw = rw; ro = ro })) ≡ resumeOf count st rw ro
   -- of the bytes not yet read, those of the entry itself pass it: the others needn't be there yet
-  pub rw-entry : (n : ℕ) (st : State)
-      → st .ro ≡ false
-      → sized count rw ro ≡ true
-      → 2 ≤ n
-      → byteAt rw 1 ≤ n
-      → n ≤ length rw
-      → passOf count st (take n rw) [] ≡ passOf count st rw ro
-  pub ro-entry : (n : ℕ) (st : State)
-      → st .ro ≡ true
-      → sized count rw ro ≡ true
-      → 2 ≤ n
-      → byteAt ro 1 ≤ n
-      → n ≤ length ro
-      → passOf count st [] (take n ro) ≡ passOf count st rw ro
-  pub first-ro-entry : (n : ℕ) (st : State)
-      → st .ro ≡ false
-      → sized count rw ro ≡ true
-      → length rw ≤ 0
-      → 2 ≤ n
-      → byteAt ro 1 ≤ n
-      → n ≤ length ro
-      → passOf count st [] (take n ro) ≡ passOf count st rw ro
+  pub rw-entry : (n : ℕ) (st : State) → st .ro ≡ false → sized count rw ro ≡ true → WholeEntry n rw → passOf count st (take n rw) [] ≡ passOf count st rw ro
+  pub ro-entry : (n : ℕ) (st : State) → st .ro ≡ true → sized count rw ro ≡ true → WholeEntry n ro → passOf count st [] (take n ro) ≡ passOf count st rw ro
+  pub first-ro-entry : (n : ℕ) (st : State) → st .ro ≡ false → sized count rw ro ≡ true → rw ≡ [] → WholeEntry n ro → passOf count st [] (take n ro) ≡ passOf count st rw ro
 
 abbrev pub Note8 : Type 0
 Note8 = (count : ℕ) (rw ro : List ℕ) → TakenUp count rw ro

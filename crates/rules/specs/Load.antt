@@ -183,6 +183,7 @@ passed st (failed n) = notPassed (atEntry n (entryNumber st))
 abbrev pub passIn : ℕ → List ℕ → State → Passed
 passIn a s st = cond (ltb 0 (length s)) (passed st (decodeAt a s 0 st)) passedAll
 
+-- in the string that the load is in; with no byte of the RW string left, the first entry of the RO string
 unfoldable pub passOf : ℕ → State → List ℕ → List ℕ → Passed
 passOf count st rw ro =
     let a : ℕ = maskBytes count in

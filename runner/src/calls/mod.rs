@@ -5,6 +5,7 @@ pub mod entry;
 pub mod load;
 pub mod owner;
 pub mod place;
+pub mod resume;
 pub mod take;
 
 use crate::case::Case;
@@ -14,8 +15,14 @@ use crate::report::Report;
 use crate::tally::Row;
 
 /// Every call, in the order of the table that is printed.
-pub const CALLS: [&Row; 24] = [
+pub const CALLS: [&Row; 30] = [
     &load::CALL,
+    &resume::PASS,
+    &resume::ENTRY,
+    &resume::END,
+    &resume::RESUME,
+    &resume::ANY_PASS,
+    &resume::ANY_RESUME,
     &entry::CALL,
     &place::CALL,
     &owner::CALL,
@@ -44,6 +51,9 @@ pub const CALLS: [&Row; 24] = [
 /// Random place and owner calls on one map.
 const FEW: usize = 3;
 
+/// The load is broken off on one in so many maps.
+const BROKEN_OFF: usize = 2;
+
 /// Compares every call without a bank on one map: place and owner for a few random numbers.
 pub fn compare(report: &mut Report, case: &Case, random: &Random) {
     if let Some(loaded) = load::compare(report, case, &[]) {
@@ -53,6 +63,10 @@ pub fn compare(report: &mut Report, case: &Case, random: &Random) {
             owner::compare_one(report, case, &loaded, random);
         }
         take::compare(report, case, &loaded, random);
+        if random.once_in(BROKEN_OFF) {
+            resume::compare(report, case, &loaded);
+            resume::compare_others(report, case, &loaded, random);
+        }
     }
 }
 
@@ -63,5 +77,6 @@ pub fn compare_all(report: &mut Report, case: &Case, known: &[(&str, Loaded)]) {
         place::compare_all(report, case, &loaded);
         owner::compare_all(report, case, &loaded);
         take::compare_all(report, case, &loaded);
+        resume::compare(report, case, &loaded);
     }
 }

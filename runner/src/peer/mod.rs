@@ -5,10 +5,11 @@
 
 mod apply;
 mod layout;
+mod resume;
 mod rows;
 mod walk;
 
-use crate::engine::{Answered, FlatCall, Loaded, Located, Owned, Placed, Taken};
+use crate::engine::{Answered, FlatCall, Loaded, Located, Owned, Passed, Placed, State, Taken};
 use layout::{app_sels_start, set_start, ACTIVE, BANK_SIZE};
 use rows::{HAS_STEP, ROWS, SIGNED};
 use walk::{find_byte, find_entry, walk, Entry, Map, Refusal};
@@ -30,7 +31,7 @@ macro_rules! from_refusal {
     )*};
 }
 
-from_refusal! { Loaded Located Placed Owned Answered }
+from_refusal! { Loaded Passed Located Placed Owned Answered }
 
 impl From<Map> for Loaded {
     #[inline(always)]
@@ -120,6 +121,17 @@ macro_rules! calls {
 calls! {
     fn load(count: usize, rw: &[u8], ro: &[u8]) -> Loaded {
         passed!(walk(count, rw, ro, NO_BANK, &mut ())).into()
+    }
+
+    fn pass(count: usize, rw: &[u8], ro: &[u8], state: State) -> Passed {
+        match passed!(resume::pass(count, rw, ro, state)) {
+            Some((length, state)) => Passed { refusal: 0, at: 0, end: 0, length, state },
+            None => Passed { end: 1, ..Passed::default() },
+        }
+    }
+
+    fn resume(count: usize, rw: &[u8], ro: &[u8], state: State) -> Loaded {
+        passed!(resume::resume(count, rw, ro, state)).into()
     }
 
     fn entry(count: usize, rw: &[u8], ro: &[u8], entry: usize) -> Located {

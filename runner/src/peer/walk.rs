@@ -81,86 +81,129 @@ pub struct Map {
     pub active: usize,
 }
 
-/// Where the walk stands.
+/// Where the walk stands: the number of the next entry, over both strings, and how many stand before its string.
 #[derive(Default)]
-struct Walk {
-    entries: usize,
-    sum: usize,
-    media: bool,
+pub struct Walk {
+    pub number: usize,
+    pub before: usize,
+    pub sum: usize,
+    pub media: bool,
 }
 
 impl Walk {
-    /// One string. The error is the number of the first check that the entry `self.entries` fails.
+    /// One string. The error is the number of the first check that the entry `self.number` fails.
     #[inline(always)]
     fn string<const A: usize>(&mut self, side: u8, string: &[u8], visitor: &mut impl Visit) -> Result<(), usize> {
-        let limit = self.entries + MOST_ENTRIES;
         let mut at = 0;
         while let Some(rest) = string.get(at..).filter(|rest| !rest.is_empty()) {
-            if self.entries == limit {
-                return Err(16);
-            }
-            let &[id, length, ..] = rest else { return Err(1) };
-            let length = usize::from(length);
-            let Some(bytes) = rest.get(..length) else { return Err(1) };
-            let row = &ROWS[usize::from(id)];
-            if length < usize::from(row.least) + A {
-                return Err(2);
-            }
-            if row.traits & side == 0 {
-                return Err(3);
-            }
-            // What is read is within the least Length, so no `else` below is taken.
-            let Some(&memory) = bytes.get(2 + A) else { return Err(2) };
-            if memory < row.needed {
-                return Err(4);
-            }
-            let (step_at, first) = if side == IN_RO { (5 + A, 0) } else { (7 + A, row.first_step) };
-            if row.traits & HAS_STEP != 0 && bytes.get(step_at).is_none_or(|&step| step.wrapping_sub(first) > 3) {
-                return Err(5);
-            }
-            let media = row.traits & HAS_FLAGS != 0 && bytes.get(3 + A).is_some_and(|flags| flags & 1 != 0);
-            if self.media && !media && row.traits & HOST_FIRST != 0 {
-                return Err(6);
-            }
-            let end = self.sum + usize::from(memory);
-            if end > SET_SIZE {
-                return Err(7);
-            }
-            let (number, in_ro, offset) = (self.entries, side == IN_RO, self.sum);
-            visitor.visit(Entry { number, in_ro, a: A, start: at, bytes, row, offset }, end);
-            self.media |= media;
-            self.sum = end;
-            self.entries += 1;
-            at += length;
+            at += self.entry::<A>(side, at, rest, visitor)?;
         }
         Ok(())
     }
+
+    /// The entry that begins at a place of its string, with the bytes from there on: its Length, or as above.
+    #[inline(always)]
+    pub fn entry<const A: usize>(
+        &mut self,
+        side: u8,
+        at: usize,
+        rest: &[u8],
+        visitor: &mut impl Visit,
+    ) -> Result<usize, usize> {
+        if self.number >= self.before + MOST_ENTRIES {
+            return Err(16);
+        }
+        let &[id, length, ..] = rest else { return Err(1) };
+        let length = usize::from(length);
+        let Some(bytes) = rest.get(..length) else { return Err(1) };
+        let row = &ROWS[usize::from(id)];
+        if length < usize::from(row.least) + A {
+            return Err(2);
+        }
+        if row.traits & side == 0 {
+            return Err(3);
+        }
+        // What is read is within the least Length, so no `else` below is taken.
+        let Some(&memory) = bytes.get(2 + A) else { return Err(2) };
+        if memory < row.needed {
+            return Err(4);
+        }
+        let (step_at, first) = if side == IN_RO { (5 + A, 0) } else { (7 + A, row.first_step) };
+        if row.traits & HAS_STEP != 0 && bytes.get(step_at).is_none_or(|&step| step.wrapping_sub(first) > 3) {
+            return Err(5);
+        }
+        let media = row.traits & HAS_FLAGS != 0 && bytes.get(3 + A).is_some_and(|flags| flags & 1 != 0);
+        if self.media && !media && row.traits & HOST_FIRST != 0 {
+            return Err(6);
+        }
+        let end = self.sum + usize::from(memory);
+        if end > SET_SIZE {
+            return Err(7);
+        }
+        let (number, in_ro, offset) = (self.number, side == IN_RO, self.sum);
+        visitor.visit(Entry { number, in_ro, a: A, start: at, bytes, row, offset }, end);
+        self.media |= media;
+        self.sum = end;
+        self.number += 1;
+        Ok(length)
+    }
+
+    /// The entries of its string that were passed.
+    #[inline(always)]
+    pub fn entries(&self) -> usize {
+        self.number - self.before
+    }
+
+    /// From the end of the RW string into the RO string.
+    #[inline(always)]
+    pub fn enter_ro(&mut self) {
+        self.number = self.entries();
+        self.before = self.number;
+    }
+}
+
+/// 9.
+#[inline(always)]
+pub fn sized(count: usize, rw: &[u8], ro: &[u8]) -> Result<(), Refusal> {
+    if count.wrapping_sub(1) >= 15 || rw.len() > 120 || ro.len() > 120 {
+        return Err((9, 0));
+    }
+    Ok(())
 }
 
 /// Walks both strings. A call without a bank gives `usize::MAX` as its length.
 #[inline(always)]
 pub fn walk(count: usize, rw: &[u8], ro: &[u8], bank_length: usize, visitor: &mut impl Visit) -> Result<Map, Refusal> {
-    if count.wrapping_sub(1) >= 15 || rw.len() > 120 || ro.len() > 120 {
-        return Err((9, 0));
-    }
+    sized(count, rw, ro)?;
     if bank_length < BANK_SIZE {
         return Err((8, 0));
     }
     if count <= 8 {
-        both::<1>(rw, ro, visitor)
+        from_rw::<1>(Walk::default(), rw, ro, visitor)
     } else {
-        both::<2>(rw, ro, visitor)
+        from_rw::<2>(Walk::default(), rw, ro, visitor)
     }
 }
 
-/// A is a constant of the loops, which are compiled for each.
+/// From a place of the RW string to the end. A is a constant of the loops, which are compiled for each.
 #[inline(always)]
-fn both<const A: usize>(rw: &[u8], ro: &[u8], visitor: &mut impl Visit) -> Result<Map, Refusal> {
-    let mut walk = Walk::default();
-    walk.string::<A>(IN_RW, rw, visitor).map_err(|number| (number, walk.entries))?;
-    let (rw_count, staged) = (walk.entries, walk.sum);
-    walk.string::<A>(IN_RO, ro, visitor).map_err(|number| (number, walk.entries))?;
-    Ok(Map { a: A, rw_count, ro_count: walk.entries - rw_count, staged, active: walk.sum })
+pub fn from_rw<const A: usize>(mut walk: Walk, rw: &[u8], ro: &[u8], visitor: &mut impl Visit) -> Result<Map, Refusal> {
+    walk.string::<A>(IN_RW, rw, visitor).map_err(|number| (number, walk.number))?;
+    let staged = walk.sum;
+    walk.enter_ro();
+    from_ro::<A>(walk, staged, ro, visitor)
+}
+
+/// From a place of the RO string to the end.
+#[inline(always)]
+pub fn from_ro<const A: usize>(
+    mut walk: Walk,
+    staged: usize,
+    ro: &[u8],
+    visitor: &mut impl Visit,
+) -> Result<Map, Refusal> {
+    walk.string::<A>(IN_RO, ro, visitor).map_err(|number| (number, walk.number))?;
+    Ok(Map { a: A, rw_count: walk.before, ro_count: walk.entries(), staged, active: walk.sum })
 }
 
 /// Keeps number, start and offset of the entry that a call names.

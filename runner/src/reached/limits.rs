@@ -103,7 +103,7 @@ pub const LIMITS: [Limit; 98] = [
     ("6: after a media-side 0Fh or 10h", |l| after_media(l, 0x0F, 0x10)),
     ("host-side 09h to 0Eh after media side", |l| l.accepted() && numeric_after_media(l)),
     ("host side after an odd opaque entry", |l| l.accepted() && after_odd_opaque(l)),
-    ("media side after media side", |l| l.accepted() && l.passed().iter().filter(|e| e.id() <= 0x08 && media(l, e)).count() > 1),
+    ("media side after media side", |l| l.accepted() && l.passed().iter().filter(|e| e.id() <= 0x08 && l.media(e)).count() > 1),
     ("an ID recurs, accepted", |l| l.accepted() && recurs(l)),
     ("all of 09h to 0Eh accepted", |l| l.accepted() && NUMERIC.into_iter().all(|id| l.passed().iter().any(|e| e.id() == id))),
     ("RW fields, none of 09h to 0Eh, accepted", |l| l.with(|e| e.string == RW && l.needed(e) > 0) && !l.with(numeric)),
@@ -132,10 +132,6 @@ fn one_byte_after(l: &Look, number: usize, string: usize, entries: usize) -> boo
     l.refused(number, |e| e.string == string && e.rest.len() == 1 && l.before(e) == entries)
 }
 
-fn media(l: &Look, entry: &Seen) -> bool {
-    l.needed(entry) > 0 && l.odd(entry)
-}
-
 fn numeric(entry: &Seen) -> bool {
     NUMERIC.contains(&entry.id())
 }
@@ -156,7 +152,7 @@ fn after_media(l: &Look, low: u8, high: u8) -> bool {
 
 /// A host-side entry of note 1 directly after a media-side entry.
 fn numeric_after_media(l: &Look) -> bool {
-    l.passed().windows(2).any(|pair| media(l, &pair[0]) && numeric(&pair[1]) && !l.odd(&pair[1]))
+    l.passed().windows(2).any(|pair| l.media(&pair[0]) && numeric(&pair[1]) && !l.odd(&pair[1]))
 }
 
 /// The entry is a 0Dh, and the test holds for its index and another 0Dh's.

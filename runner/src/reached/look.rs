@@ -1,7 +1,8 @@
 //! A look at a load and its answer: the entries that were passed, and the entry that ended it.
 
+use crate::calls::resume;
 use crate::case::Case;
-use crate::engine::Loaded;
+use crate::engine::{Loaded, Passed, State};
 use crate::refusals::{named, Named};
 use crate::shape::{self, mask_bytes, shape, TABLE};
 use crate::strings::{LARGEST, MOST_ENTRIES, RO, RW};
@@ -105,6 +106,11 @@ impl<'a> Look<'a> {
         entry.rest.get(3 + self.a).is_some_and(|flags| flags & 1 == 1)
     }
 
+    /// An entry of the table, media side.
+    pub fn media(&self, entry: &Seen) -> bool {
+        self.needed(entry) > 0 && self.odd(entry)
+    }
+
     /// The step byte of an entry that has one, if it is there.
     pub fn step(&self, entry: &Seen) -> Option<u8> {
         shape::step(entry.id()).and_then(|(at, _)| entry.rest.get(at + self.a).copied())
@@ -153,6 +159,32 @@ impl<'a> Look<'a> {
     pub fn first_media(&self) -> Option<&Seen<'a>> {
         let media = |e: &&Seen| e.string == RW && TABLE[RW].contains(&e.id()) && self.odd(e);
         self.passed.iter().find(media)
+    }
+
+    /// What pass answers after so many entries, as the entries themselves say it.
+    pub fn pass_after(&self, entries: usize) -> Passed {
+        match self.passed.get(entries).and_then(Seen::length) {
+            Some(length) => Passed { length, state: self.state_after(entries + 1), ..Passed::default() },
+            None if self.accepted() => resume::end(),
+            None => Passed::refused(self.answer.refusal, self.answer.at),
+        }
+    }
+
+    /// What a load keeps after so many entries.
+    fn state_after(&self, entries: usize) -> State {
+        let passed = &self.passed[..entries];
+        let in_ro = passed.last().is_some_and(|entry| entry.string == RO);
+        let of = |string: usize| passed.iter().filter(move |entry| entry.string == string);
+        let count = |string: usize| of(string).count() as u8;
+        let sum = |string: usize| of(string).filter_map(|entry| self.memory(entry)).sum::<usize>() as u16;
+        State {
+            string: in_ro.into(),
+            media: passed.iter().any(|entry| self.media(entry)).into(),
+            entries: count(usize::from(in_ro)),
+            before: if in_ro { count(RW) } else { 0 },
+            sum: sum(RW) + sum(RO),
+            staged_length: if in_ro { sum(RW) } else { 0 },
+        }
     }
 
     /// A check of an entry, looked at by itself, fails at this one.

@@ -1,26 +1,42 @@
-//! What the generated maps reached in the load, counted so that a generator that misses its aim fails the run.
+//! What the generated maps reached in the load and where it was taken up again, counted so that a generator that misses its aim
+//! fails the run.
 
+mod breaks;
 mod kinds;
 mod limits;
 mod look;
 mod pairs;
+mod states;
 
+use crate::calls::resume::{Origin, Rest};
 use crate::case::Case;
-use crate::engine::Loaded;
+use crate::engine::{Loaded, Passed};
 use crate::refusals::FLOOR;
 use crate::tally::Tally;
+use breaks::{Break, BREAKS};
 use limits::LIMITS;
-use look::Look;
+pub use look::Look;
+use states::{TakenUp, STATES};
 
 pub struct Reached {
     kinds: Tally,
     pairs: Tally,
-    limits: [u64; LIMITS.len()],
+    limits: Limits,
+    broken_off: Tally,
+    breaks: Limits,
+    states: Limits,
 }
 
 impl Reached {
     pub fn new() -> Reached {
-        Reached { kinds: kinds::tally(), pairs: pairs::tally(), limits: [0; LIMITS.len()] }
+        Reached {
+            kinds: kinds::tally(),
+            pairs: pairs::tally(),
+            limits: Limits::new(LIMITS.iter().map(|(name, _)| *name)),
+            broken_off: breaks::tally(),
+            breaks: Limits::new(BREAKS.iter().map(|(name, _)| *name)),
+            states: Limits::new(STATES.iter().map(|(name, _)| *name)),
+        }
     }
 
     /// Counts a load on whose answer all programs agree.
@@ -30,28 +46,62 @@ impl Reached {
             kinds::count(&mut self.kinds, answer.refusal, &stop);
             pairs::count(&mut self.pairs, answer.refusal, &look, &stop);
         }
-        for (seen, (_, test)) in self.limits.iter_mut().zip(LIMITS) {
-            *seen += u64::from(test(&look));
-        }
+        self.limits.count(LIMITS.iter().map(|(_, test)| test(&look)));
+    }
+
+    /// Counts a load that was broken off, and what was left of it.
+    pub fn broken_off(&mut self, look: &Look, rest: &Rest) {
+        let at = Break { look, rest };
+        breaks::count(&mut self.broken_off, &at);
+        self.breaks.count(BREAKS.iter().map(|(_, test)| test(&at)));
+    }
+
+    /// Counts a load that was taken up from a state with bytes that needn't be its own.
+    pub fn taken_up(&mut self, origin: Origin, rest: &Rest, passed: &Passed, loaded: &Loaded) {
+        let at = TakenUp { origin, rest, passed, loaded };
+        self.states.count(STATES.iter().map(|(_, test)| test(&at)));
     }
 
     pub fn print(&self) {
         self.kinds.print();
         self.pairs.print();
-        for (seen, (name, _)) in self.limits.iter().zip(LIMITS) {
-            println!("{name:<40}{seen:>8}");
+        self.limits.print();
+        self.broken_off.print();
+        self.breaks.print();
+        self.states.print();
+    }
+
+    pub fn faults(&self) -> Vec<String> {
+        let tallies = [&self.kinds, &self.pairs, &self.broken_off].map(Tally::faults);
+        let limits = [&self.limits, &self.breaks, &self.states].map(Limits::faults);
+        tallies.into_iter().chain(limits).flatten().collect()
+    }
+}
+
+/// Limits by name, and how often each was met.
+struct Limits(Vec<(&'static str, u64)>);
+
+impl Limits {
+    fn new(names: impl Iterator<Item = &'static str>) -> Limits {
+        Limits(names.map(|name| (name, 0)).collect())
+    }
+
+    /// Says of each limit, in order, whether it was met.
+    fn count(&mut self, met: impl Iterator<Item = bool>) {
+        for ((_, seen), met) in self.0.iter_mut().zip(met) {
+            *seen += u64::from(met);
+        }
+    }
+
+    fn print(&self) {
+        for (name, seen) in &self.0 {
+            println!("{name:<44}{seen:>8}");
         }
         println!();
     }
 
-    pub fn faults(&self) -> Vec<String> {
-        let mut faults = self.kinds.faults();
-        faults.extend(self.pairs.faults());
-        for (&seen, (name, _)) in self.limits.iter().zip(LIMITS) {
-            if seen < FLOOR {
-                faults.push(format!("{name}: seen {seen} times, below {FLOOR}"));
-            }
-        }
-        faults
+    fn faults(&self) -> Vec<String> {
+        let short = self.0.iter().filter(|(_, seen)| *seen < FLOOR);
+        short.map(|(name, seen)| format!("{name}: seen {seen} times, below {FLOOR}")).collect()
     }
 }

@@ -12,6 +12,7 @@ use Rattle.rules.specs.Words.{Entry, Decoded, State}
 use Rattle.rules.specs.Parameter.{Extra, codeMask, min, max, step, Row, rows, space, both, rowOf}
 use Rattle.rules.specs.Descriptor.{maskBytes, byteAt, highFirst, sizeOf, Position, absent, after, positionOf, codesOf, byteOf, mediaSide, entryAt, overruns, refuse, lengthChecks, contentChecks, full, limited, decodeAt, decodeWithin}
 use Rattle.rules.specs.Load.{intoRO, sized, passed, passIn, passOf}
+use Rattle.rules.specs.Demands.{WholeEntry}
 use Rattle.rules.proofs.Basics.Tests.{and₅}
 use Rattle.rules.proofs.Table.Rows.{looked-up, row-least}
 use Rattle.rules.proofs.Load.Checks.{pass}
@@ -102,24 +103,24 @@ module _ (a n : ℕ) (s : List ℕ) (st : State) (two : 2 ≤ n) (whole : byteAt
   pass-alone = rw (lt-ltb 0 (length (take n s)) (omega (arith, lent)), lt-ltb 0 (length s) (omega arith)) (ap (passed st) decode-front)
 
 -- the entry is the next one of the RW string, the next one of the RO string, or the first of it
-module _ (count n : ℕ) (rw ro : List ℕ) (st : State) where
-  pub pass-rw-alone : st .ro ≡ false → sized count rw ro ≡ true → 2 ≤ n → byteAt rw 1 ≤ n → n ≤ length rw → passOf count st (take n rw) [] ≡ passOf count st rw ro
-  pass-rw-alone f fine two whole inside =
-      let l : length (take n rw) ≡ n = length-take-le n rw inside in
-      pass-in-rw count (take n rw) [] st (sized-less count rw ro (take n rw) [] fine (omega arith) (omega arith)) f (omega arith)
-      ∙ pass-alone (maskBytes count) n rw st two whole inside
-      ∙ sym (pass-in-rw count rw ro st fine f (omega arith))
+module _ (count n : ℕ) (first last : List ℕ) (st : State) where
+  pub pass-rw-alone : st .ro ≡ false → sized count first last ≡ true → WholeEntry n first → passOf count st (take n first) [] ≡ passOf count st first last
+  pass-rw-alone f fine (two, whole, inside) =
+      let l : length (take n first) ≡ n = length-take-le n first inside in
+      pass-in-rw count (take n first) [] st (sized-less count first last (take n first) [] fine (omega arith) (omega arith)) f (omega arith)
+      ∙ pass-alone (maskBytes count) n first st two whole inside
+      ∙ sym (pass-in-rw count first last st fine f (omega arith))
 
-  pub pass-ro-alone : st .ro ≡ true → sized count rw ro ≡ true → 2 ≤ n → byteAt ro 1 ≤ n → n ≤ length ro → passOf count st [] (take n ro) ≡ passOf count st rw ro
-  pass-ro-alone f fine two whole inside =
-      let l : length (take n ro) ≡ n = length-take-le n ro inside in
-      pass-in-ro count [] (take n ro) st (sized-less count rw ro [] (take n ro) fine (omega arith) (omega arith)) f
-      ∙ pass-alone (maskBytes count) n ro st two whole inside
-      ∙ sym (pass-in-ro count rw ro st fine f)
+  pub pass-ro-alone : st .ro ≡ true → sized count first last ≡ true → WholeEntry n last → passOf count st [] (take n last) ≡ passOf count st first last
+  pass-ro-alone f fine (two, whole, inside) =
+      let l : length (take n last) ≡ n = length-take-le n last inside in
+      pass-in-ro count [] (take n last) st (sized-less count first last [] (take n last) fine (omega arith) (omega arith)) f
+      ∙ pass-alone (maskBytes count) n last st two whole inside
+      ∙ sym (pass-in-ro count first last st fine f)
 
-  pub pass-into-alone : st .ro ≡ false → sized count rw ro ≡ true → length rw ≤ 0 → 2 ≤ n → byteAt ro 1 ≤ n → n ≤ length ro → passOf count st [] (take n ro) ≡ passOf count st rw ro
-  pass-into-alone f fine none two whole inside =
-      let l : length (take n ro) ≡ n = length-take-le n ro inside in
-      pass-into-ro count [] (take n ro) st (sized-less count rw ro [] (take n ro) fine (omega arith) (omega arith)) f (omega arith)
-      ∙ pass-alone (maskBytes count) n ro (intoRO st) two whole inside
-      ∙ sym (pass-into-ro count rw ro st fine f none)
+  pub pass-into-alone : st .ro ≡ false → sized count first last ≡ true → first ≡ [] → WholeEntry n last → passOf count st [] (take n last) ≡ passOf count st first last
+  pass-into-alone f fine none (two, whole, inside) =
+      let l : length (take n last) ≡ n = length-take-le n last inside in
+      pass-into-ro count [] (take n last) st (sized-less count first last [] (take n last) fine (omega arith) (omega arith)) f (omega arith)
+      ∙ pass-alone (maskBytes count) n last (intoRO st) two whole inside
+      ∙ sym (pass-into-ro count first last st fine f (rw none (omega arith)))

@@ -11,7 +11,7 @@ use Rattle.rules.specs.Words.{plain, Entry, Decoded, decoded, failed, St
 use Rattle.rules.specs.Descriptor.{maskBytes, decodeAt}
 use Rattle.rules.specs.Load.{start, next, intoRO, entryNumber, answer, after, walkOf, sized, stringsWithin, loadOf, resumeOf, passed, passIn, passOf}
 use Rattle.rules.specs.Demands.{Break, resumeAt, leftBy, further, passes, TakenUp}
-use Rattle.rules.proofs.Load.Resumes.{sized-less, stringAt, onFrom, on-stop, on-into, on-end, resume-9, resume-begin}
+use Rattle.rules.proofs.Load.Resumes.{sized-less, stringAt, onFrom, on-stop, on-into, on-end, resume-9, resume-begin, load-resumes}
 use Rattle.rules.proofs.Load.Rests.{walk-past}
 use Rattle.rules.proofs.Load.Pieces.{pass-rw-alone, pass-ro-alone, pass-into-alone}
 
@@ -151,7 +151,7 @@ pub taken-up : (count : ℕ) (rw ro : List ℕ) → TakenUp count rw ro
 unfolding loadOf resumeOf stringsWithin
 taken-up count first last =
     record {
-      begins = refl;
+      begins = load-resumes count first last;
       after = λ k. goes-on count k (record { kept = start; rw = first; ro = last });
       counts = λ k h. counted count (record { kept = start; rw = first; ro = last }) refl (λ _. refl) k h .0;
       again = λ st k. goes-on count k (record { kept = st; rw = first; ro = last });

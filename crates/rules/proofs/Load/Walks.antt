@@ -265,6 +265,17 @@ map-good count first last h =
             (omega (arith, ends-all 0 (rwEntries count first) e (a .rw-good) l))
         go false l = omega (arith, ends-all 0 (rwEntries count first ++ roEntries count first last) e (a .good) l)
 
+-- both strings walked to their ends, by what each walk counted and summed
+pub strings-walked :
+    (count : ℕ) (rw ro : List ℕ) (m e : State)
+    → walkOf (maskBytes count) rw 0 start ≡ ended m
+    → walkOf (maskBytes count) ro 0 (intoRO m) ≡ ended e
+    → stringsOf count rw ro ≡ accepted (m .entries) (e .entries) (m .sum) (e .sum)
+strings-walked count first last m e p q =
+    let l = walk-listed (maskBytes count) first m 0 start (omega arith) p in
+    let r = walk-listed (maskBytes count) last e 0 (intoRO m) (l .most) q in
+    strings-def count first last ∙ rw (p, q, r .before, r .staged) refl
+
 -- no string of an accepted load has more entries than the limit
 pub load-few : (count : ℕ) (rw ro : List ℕ) → Accepted count rw ro → (length (rwEntries count rw) ≤ entryLimit) × (length (roEntries count rw ro) ≤ entryLimit)
 load-few count first last ok = load-accepted count first last _ _ _ _ (ok .loads) .few

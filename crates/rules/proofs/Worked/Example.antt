@@ -1,16 +1,16 @@
--- A small module on which both machines are run by computing. It also shows that the premises of demand 3 and of note 7 can be met.
+-- A small module on which both machines are run by computing. It also shows that the premises of demand 3 and of notes 7 and 8 can be met.
 use mathlib.Core.Path.{_≡_, refl, sym, _∙_}
 use mathlib.Core.List.{List, [], _∷_, map}
-use mathlib.Core.Bool.{false}
+use mathlib.Core.Bool.{true, false}
 use Prim.Native.Nat.{ℕ, _+_}
 use native.Mathlib.Omega.{arith}
 use lib.IntN.{pos, negsuc}
-use lib.ListN.{replicate, length-replicate}
-use Rattle.rules.specs.Words.{plain, atLane, State, ended, Call, select, write, read, byteWrite, byteRead, publish, apply, Answer, saysYes, number, refused}
+use lib.ListN.{take, replicate, length-replicate}
+use Rattle.rules.specs.Words.{plain, atLane, State, ended, accepted, Call, select, write, read, byteWrite, byteRead, publish, apply, Answer, saysYes, number, refused}
 use Rattle.rules.specs.Numbers.{sum, any, lowest}
 use Rattle.rules.specs.Parameter.{rowOf}
 use Rattle.rules.specs.Descriptor.{maskBytes, highFirst, codesOf, byteOf, refuse, lengthChecks, contentChecks, unlimited, decodeWithin}
-use Rattle.rules.specs.Load.{start, intoRO, foldBy, foldOf, loadOf, total, bothWithin, entriesWithin, mapWithin, roWithin, rwWithin, restWithin, stringsWithin, walkWithin}
+use Rattle.rules.specs.Load.{start, intoRO, entryNumber, passOf, foldBy, foldOf, loadOf, total, bothWithin, entriesWithin, mapWithin, roWithin, rwWithin, restWithin, stringsWithin, walkWithin}
 use Rattle.rules.specs.Place.{partsOf, widthOf, signedOf, heldBy, lengthOf, firstOwner, ownerOf}
 use Rattle.rules.specs.Accept.{within, inMask, takes, accepts, toBits, fromBits}
 use Rattle.rules.specs.Refuse.{check9, check8, checkEntries, exists, misdirected, unaccepted, judge, atLowest, bankOrder, orderOf}
@@ -18,9 +18,10 @@ use Rattle.rules.specs.Layout.{bankSize, hasBytes, setStart, appSelStart
 use Rattle.rules.specs.Bank.{Bank, getField, putField, numberIn, withNumber, fieldBits, bankLacksApp, bankCopies, bankHoldsBad, bankPlan, loop, copyField, applyBank, bankDoes, bankCall, freshBank, freshCall, bankMakes}
 use Rattle.rules.specs.Table.{byteFrom, tableLacksApp, tableCopies, tableHoldsBad, tablePlan, tableDoes, tableCall, tableMakes}
 use Rattle.rules.specs.Machine.{call, run}
-use Rattle.rules.specs.Demands.{Accepted, bankRun, tableRun, ListAgrees, comesTo, AtMost16, AsBefore}
+use Rattle.rules.specs.Demands.{Accepted, bankRun, tableRun, ListAgrees, comesTo, AtMost16, AsBefore, Break, further}
 use Rattle.rules.proofs.Lists.Lists.{lists-agree}
 use Rattle.rules.proofs.Load.Limits.{as-before}
+use Rattle.rules.proofs.Load.TakenUp.{taken-up}
 
 -- 02h at 0 for AppSel 1 and 2; opaque 13h at 1 and 2, with a last byte that is not read as flags; 04h at 3 with codes 0 to 3
 -- for AppSel 1, and a byte of surplus at 7; 0Dh at 8 for AppSel 2, index −1, Max 0, Min −30, step 0
@@ -113,9 +114,12 @@ answers =
     ∷ refused (plain 11)
     ∷ []
 
-example-accepted : Accepted 2 rwString roString
+example-loads : loadOf 2 rwString roString ≡ accepted 4 1 16 24
 unfolding rowOf maskBytes highFirst codesOf byteOf refuse lengthChecks contentChecks decodeWithin foldBy foldOf walkWithin restWithin stringsWithin loadOf
-example-accepted = record { rwCount = 4; roCount = 1; staged = 16; active = 24; loads = refl }
+example-loads = refl
+
+example-accepted : Accepted 2 rwString roString
+example-accepted = record { rwCount = 4; roCount = 1; staged = 16; active = 24; loads = example-loads }
 
 -- the bank machine, computed
 pub example-bank : bankRun 2 rwString roString bank (map call calls) .0 ≡ answers
@@ -160,3 +164,26 @@ example-few =
 -- note 7 of this module: its premise is met
 pub example-as-before : AsBefore 2 rwString roString
 example-as-before = as-before 2 rwString roString example-few
+
+-- note 8 of this module: the load is broken off after its last entry, 12h, with no byte left
+abbrev begun : Break
+begun = record { kept = start; rw = rwString; ro = roString }
+
+pub example-further :
+    further 2 5 begun
+    ≡ record { kept = record { ro = true; media = false; entries = 1; before = 4; sum = 24; staged = 16 }; rw = []; ro = [] }
+unfolding rowOf maskBytes highFirst codesOf byteOf refuse lengthChecks contentChecks decodeWithin passOf further
+example-further = refl
+
+pub example-counts : entryNumber (further 2 5 begun .kept) ≡ 5
+example-counts = taken-up 2 rwString roString .counts 5 (rw example-loads (omega arith))
+
+-- its first entry has 5 bytes, and its only RO entry 7
+pub example-rw-entry : passOf 2 start (take 5 rwString) [] ≡ passOf 2 start rwString roString
+example-rw-entry = taken-up 2 rwString roString .rw-entry 5 start refl refl (omega arith, omega arith, omega arith)
+
+pub example-ro-entry : passOf 2 (intoRO middle) [] (take 7 roString) ≡ passOf 2 (intoRO middle) rwString roString
+example-ro-entry = taken-up 2 rwString roString .ro-entry 7 (intoRO middle) refl refl (omega arith, omega arith, omega arith)
+
+pub example-first-ro-entry : passOf 2 middle [] (take 7 roString) ≡ passOf 2 middle [] roString
+example-first-ro-entry = taken-up 2 [] roString .first-ro-entry 7 middle refl refl refl (omega arith, omega arith, omega arith)

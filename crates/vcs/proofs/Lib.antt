@@ -1,0 +1,2 @@
+-- The state in C against the rules' own; then the functions' proofs.
+pub mod States
