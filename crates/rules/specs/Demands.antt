@@ -298,8 +298,10 @@ pub record TakenUp (count : ℕ) (rw ro : List ℕ) : Type 0 where
   pub after : (k : ℕ) → resumeAt count (further count k (record { kept = start; rw = rw; ro = ro })) ≡ loadOf count rw ro
   -- .. which is so many entries after the beginning, up to the last that the load passes
   pub counts : (k : ℕ) → k ≤ passes (loadOf count rw ro) → entryNumber (further count k (record { kept = start; rw = rw; ro = ro }) .kept) ≡ k
-  -- taken up in any state, with any bytes, and broken off again: so often as one likes
+  -- taken up in any state, with any bytes, and broken off again: as often as one likes
   pub again : (st : State) (k : ℕ) → resumeAt count (further count k (record { kept = st; rw = rw; ro = ro })) ≡ resumeOf count st rw ro
+  -- an entry that isn't passed is refused as the load refuses it
+  pub refuses : (st : State) (r : Refusal) → passOf count st rw ro ≡ notPassed r → resumeOf count st rw ro ≡ rejected r
   -- of the bytes not yet read, those of the entry itself pass it: the others needn't be there yet
   pub rw-entry : (n : ℕ) (st : State) → st .ro ≡ false → sized count rw ro ≡ true → WholeEntry n rw → passOf count st (take n rw) [] ≡ passOf count st rw ro
   pub ro-entry : (n : ℕ) (st : State) → st .ro ≡ true → sized count rw ro ≡ true → WholeEntry n ro → passOf count st [] (take n ro) ≡ passOf count st rw ro

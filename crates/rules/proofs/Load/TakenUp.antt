@@ -7,7 +7,7 @@ use native.Mathlib.Omega.{arith}
 use lib.ListN.{length, drop, length-drop}
 use lib.Dec.{ltb}
 use borrow.Author.Tests.{ltb-true, ltb-false}
-use Rattle.rules.specs.Words.{plain, Entry, Decoded, decoded, failed, State, Passed, past, passedAll, notPassed}
+use Rattle.rules.specs.Words.{Refusal, plain, Entry, Decoded, decoded, failed, State, rejected, Passed, past, passedAll, notPassed}
 use Rattle.rules.specs.Descriptor.{maskBytes, decodeAt}
 use Rattle.rules.specs.Load.{start, next, intoRO, entryNumber, answer, after, walkOf, sized, stringsWithin, loadOf, resumeOf, passed, passIn, passOf}
 use Rattle.rules.specs.Demands.{Break, resumeAt, leftBy, further, passes, TakenUp}
@@ -25,7 +25,7 @@ Goes count b (past st n) =
     (resumeAt count (leftBy b (past st n)) ≡ resumeAt count b)
     × (Ordered (b .kept) → (entryNumber st ≡ suc (entryNumber (b .kept))) × Ordered st)
 Goes count b passedAll = Ordered (b .kept) → passes (resumeAt count b) ≤ entryNumber (b .kept)
-Goes count b (notPassed r) = Ordered (b .kept) → passes (resumeAt count b) ≤ entryNumber (b .kept)
+Goes count b (notPassed r) = (resumeAt count b ≡ rejected r) × (Ordered (b .kept) → passes (resumeAt count b) ≤ entryNumber (b .kept))
 
 module _ (count : ℕ) (st : State) (first last : List ℕ) where
   abbrev b : Break
@@ -58,7 +58,9 @@ module _ (count : ℕ) (st : State) (first last : List ℕ) where
           → (d : Decoded)
           → decodeAt a (stringAt count first last ro) 0 m ≡ d
           → Goes count b (passed m d)
-      goes-in ro q l (failed n) d = λ o. rw (same ro q ∙ on-stop count first last ro 0 m n l d) (omega (arith, numbered o .0))
+      goes-in ro q l (failed n) d =
+          let stops = same ro q ∙ on-stop count first last ro 0 m n l d in
+          (stops, λ o. rw stops (omega (arith, numbered o .0)))
       goes-in true q l (decoded e) d = (
         ap (λ ro. resumeAt count (cond ro (record { kept = next m e; rw = []; ro = drop (e .length) last }) (record { kept = next m e; rw = drop (e .length) first; ro = last }))) q
             ∙ left-in-ro e q l d,
@@ -106,13 +108,18 @@ module _ (count : ℕ) (st : State) (first last : List ℕ) where
       go : (x : Bool) → sized count first last ≡ x
           → Goes count b (cond x (cond (st .ro) (passIn a last st) (cond (ltb 0 (length first)) (passIn a first st) (passIn a last (intoRO st)))) (notPassed (plain 9)))
       go true q = goes-sized q
-      go false q = λ o. rw (resume-9 count first last st q) (omega arith)
+      go false q = (resume-9 count first last st q, λ o. rw (resume-9 count first last st q) (omega arith))
 
 module _ (count : ℕ) where
   by-goes : (b : Break) (p : Passed) → Goes count b p → resumeAt count (leftBy b p) ≡ resumeAt count b
   by-goes b (past st n) g = g .0
   by-goes b passedAll g = refl
   by-goes b (notPassed r) g = refl
+
+  refused-by : (b : Break) (p : Passed) → Goes count b p → (r : Refusal) → p ≡ notPassed r → resumeAt count b ≡ rejected r
+  refused-by b (past st n) g r h = let z : _≡_ {A = ℕ} 0 1 = cc in absurd (omega arith)
+  refused-by b passedAll g r h = let z : _≡_ {A = ℕ} 0 1 = cc in absurd (omega arith)
+  refused-by b (notPassed x) g r h = let q : x ≡ r = cc in g .0 ∙ ap rejected q
 
   goes-on : (k : ℕ) (b : Break) → resumeAt count (further count k b) ≡ resumeAt count b
   unfolding further
@@ -135,7 +142,7 @@ module _ (count : ℕ) where
       → (entryNumber (leftBy b p .kept) ≡ suc k) × Ordered (leftBy b p .kept)
   one-more b k (past st n) g o h = rw (kept-is b st n) (omega (arith, g .1 (o .1) .0, o .0), g .1 (o .1) .1)
   one-more b k passedAll g o h = absurd (omega (arith, g (o .1), o .0))
-  one-more b k (notPassed r) g o h = absurd (omega (arith, g (o .1), o .0))
+  one-more b k (notPassed r) g o h = absurd (omega (arith, g .1 (o .1), o .0))
 
   counted : (b : Break) → entryNumber (b .kept) ≡ 0 → Ordered (b .kept) → (k : ℕ) → k ≤ passes (resumeAt count b)
       → (entryNumber (further count k b .kept) ≡ k) × Ordered (further count k b .kept)
@@ -155,6 +162,7 @@ taken-up count first last =
       after = λ k. goes-on count k (record { kept = start; rw = first; ro = last });
       counts = λ k h. counted count (record { kept = start; rw = first; ro = last }) refl (λ _. refl) k h .0;
       again = λ st k. goes-on count k (record { kept = st; rw = first; ro = last });
+      refuses = λ st. refused-by count (record { kept = st; rw = first; ro = last }) (passOf count st first last) (goes count st first last);
       rw-entry = λ n. pass-rw-alone count n first last;
       ro-entry = λ n. pass-ro-alone count n first last;
       first-ro-entry = λ n. pass-into-alone count n first last;
