@@ -80,7 +80,8 @@ typedef struct {
     size_t bit;
 } vcs_placed;
 
-/* Whose a bit of a set is: entry, part and lane (1 to 8) of its field. In a gap `gap` is 1 and these are 0. */
+/* Whose a bit of a set is: entry, part and lane (1 to 8) of its field. In a gap `gap` is 1 and these are 0. In both cases
+   `looked_at` is the number of entries looked at: that of the entry whose space covers the byte, plus one. */
 typedef struct {
     size_t refusal;
     size_t at;
@@ -88,6 +89,7 @@ typedef struct {
     size_t entry;
     size_t part;
     size_t lane;
+    size_t looked_at;
 } vcs_owned;
 
 /* What a call on a bank says: `number` is what read, byte read and weight answer; of the other calls it is 0, and
@@ -147,7 +149,9 @@ vcs_located vcs_entry(size_t count, const uint8_t *rw, size_t rw_length, const u
 vcs_placed vcs_place(size_t count, const uint8_t *rw, size_t rw_length, const uint8_t *ro, size_t ro_length, size_t set,
                      size_t entry, size_t part, size_t lane);
 
-/* The owner call: bit 0 to 7 of the byte at an offset of a set. Refusals 9, 16, 1 to 7, 10. */
+/* The owner call: bit 0 to 7 of the byte at an offset of a set. Once the strings are accepted it looks through the entries in
+   order, RW first, up to the one whose space covers the byte; an entry with MemoryLength 0 covers none and is counted when
+   passed. Refusals 9, 16, 1 to 7, 10. */
 vcs_owned vcs_owner(size_t count, const uint8_t *rw, size_t rw_length, const uint8_t *ro, size_t ro_length, size_t set,
                     size_t offset, size_t bit);
 

@@ -99,7 +99,8 @@ pub struct Placed {
     pub bit: usize,
 }
 
-/// Whose a bit of a set is: entry, part and lane (1 to 8) of its field. In a gap `gap` is 1 and these are 0.
+/// Whose a bit of a set is: entry, part and lane (1 to 8) of its field. In a gap `gap` is 1 and these are 0. In both cases
+/// `looked_at` is the number of entries looked at: that of the entry whose space covers the byte, plus one.
 #[repr(C)]
 #[derive(Clone, Copy, Debug, Default, PartialEq, Eq)]
 pub struct Owned {
@@ -109,6 +110,7 @@ pub struct Owned {
     pub entry: usize,
     pub part: usize,
     pub lane: usize,
+    pub looked_at: usize,
 }
 
 /// What a call on a bank says: `number` is what read, byte read and weight answer; of the other calls it is 0, and
@@ -189,7 +191,9 @@ calls! {
     /// Refusals 9, 16, 1 to 7, 10, 11.
     place(set: usize, entry: usize, part: usize, lane: usize) -> Placed = vcs_place(set, entry, part, lane);
 
-    /// The owner call: bit 0 to 7 of the byte at an offset of a set. Refusals 9, 16, 1 to 7, 10.
+    /// The owner call: bit 0 to 7 of the byte at an offset of a set. Once the strings are accepted it looks through the
+    /// entries in order, RW first, up to the one whose space covers the byte; an entry with MemoryLength 0 covers none and
+    /// is counted when passed. Refusals 9, 16, 1 to 7, 10.
     owner(set: usize, offset: usize, bit: usize) -> Owned = vcs_owner(set, offset, bit);
 
     /// Fresh: clears the bank, and answers as the load does. Refusals 9, 8, 16, 1 to 7.

@@ -8,6 +8,8 @@
    must occur, and every ID that write takes must have an accepted write and each refusal that its entry can have. In either
    string 16 entries must be accepted, and a 17th refused: a good one, one byte, and one that is refused even alone, with each
    number that this can have; take must take one.
+   Owner must have looked at the entries up to the one whose space covers the byte, by the MemoryLengths in the strings. Fields
+   and gaps must occur in either string, also behind an entry with MemoryLength 0.
    A load made entry by entry must end as the load does. Pass and resume are called where it was broken off, and with any
    state. Pass must answer by the entry's bytes and the state alone, resume as pass after pass does, and the same from behind
    an entry as from before it. Both must occur in either string and between them, with each refusal.
@@ -58,6 +60,10 @@ static size_t written[256], stopped[256][NUMBERS];
 /* By string: accepted maps with 16 entries in it; 17th entries of one byte, those with more, by the refusal that the entry
    has alone, and those that were taken. */
 static size_t full[2], strays[2], seventeenths[2][NUMBERS], seventeenths_taken[2];
+
+/* Accepted owner calls: by the string of the entry that covers the byte, by gap, and by whether entries before it have
+   MemoryLength 0. */
+static size_t searched[2][2][2];
 
 /* Where a load in pieces stands: in the RW string, at its end, or in the RO string. By this, and by refusal (0: none): passes
    and resumes; the ends that pass told; the passes that left a number of the state above 1 as 1. */
@@ -723,10 +729,10 @@ static size_t refused_by_lent(int needs_bank)
     return needs_bank && buffers[BANK].length < VCS_BANK_SIZE ? 8 : map.refusal;
 }
 
-/* Judges an answer of at most six numbers: the refusal, what it names, then numbers that a refused answer has not. */
+/* Judges an answer of at most seven numbers: the refusal, what it names, then numbers that a refused answer has not. */
 static int judge(size_t export, const void *answer, size_t size)
 {
-    size_t numbers[6] = {0};
+    size_t numbers[7] = {0};
     memcpy(numbers, answer, size);
     size_t refusal = numbers[0], at = numbers[1];
     size_t expected = refused_by_lent(export < LOAD || export == FRESH || export == WEIGHT);
@@ -738,7 +744,7 @@ static int judge(size_t export, const void *answer, size_t size)
     if (names == NOTHING ? at != 0 : names == AN_ENTRY ? at != map.at : at < 1 || at > 8) {
         fail(NAMES[export], "another entry or lane");
     }
-    for (int i = 2; i < 6 && refusal != 0; i++) {
+    for (int i = 2; i < 7 && refusal != 0; i++) {
         if (numbers[i] != 0) {
             fail(NAMES[export], "a refused answer has a number");
         }
@@ -749,6 +755,39 @@ static int judge(size_t export, const void *answer, size_t size)
 }
 
 #define JUDGE(type, call) judge(export, &(type[1]){call}, sizeof(type))
+
+/* Counts the entries up to the one whose space covers a byte, 0 if none does, and those of MemoryLength 0 among them. */
+static size_t search(size_t offset, size_t *empty)
+{
+    size_t a = count <= 8 ? 1 : 2, entries = 0, sum = 0;
+    *empty = 0;
+    for (int string = RW; string <= RO; string++) {
+        const buffer *b = &buffers[string];
+        for (size_t start = 0; start < b->length && sum <= offset; start += b->lent[start + 1], entries++) {
+            sum += b->lent[start + 2 + a];
+            *empty += b->lent[start + 2 + a] == 0;
+        }
+    }
+    return sum > offset ? entries : 0;
+}
+
+/* The entries looked at end with the one that covers the byte, in a gap too; a field is that one's. */
+static int owner(const vcs_call *c)
+{
+    vcs_owned answer = vcs_owner(LENT, c->set, c->offset, c->lane - 1);
+    if (!judge(OWNER, &answer, sizeof answer)) {
+        return 0;
+    }
+    size_t empty, entries = search(c->offset, &empty);
+    if (entries == 0 || answer.looked_at != entries) {
+        fail("owner", "another number of entries looked at");
+    }
+    if (answer.gap > 1 || answer.entry != (answer.gap ? 0 : entries - 1)) {
+        fail("owner", "a field of another entry");
+    }
+    searched[entries > map.rw_count][answer.gap][empty > 0]++;
+    return 1;
+}
 
 /* The reader's step has its own answer, and no limit of entries: where the load has refused a 17th, it is often made. */
 static void take(void)
@@ -810,7 +849,7 @@ static void call_one(size_t export)
     case LOAD: is_accepted = JUDGE(vcs_loaded, vcs_load(LENT)); break;
     case ENTRY: is_accepted = JUDGE(vcs_located, vcs_entry(LENT, c.entry)); break;
     case PLACE: is_accepted = JUDGE(vcs_placed, vcs_place(LENT, c.set, c.entry, c.part, c.lane)); break;
-    case OWNER: is_accepted = JUDGE(vcs_owned, vcs_owner(LENT, c.set, c.offset, c.lane - 1)); break;
+    case OWNER: is_accepted = owner(&c); break;
     case FRESH: is_accepted = JUDGE(vcs_loaded, vcs_fresh(LENT, LENT_BANK)); break;
     case WEIGHT: is_accepted = JUDGE(vcs_answer, vcs_weight(LENT, LENT_BANK, c.entry, c.lane)); break;
     case TAKE: take(); break;
@@ -882,6 +921,18 @@ static void demand_limit(void)
     }
 }
 
+static void demand_searches(void)
+{
+    for (int i = 0; i < 8; i++) {
+        int string = i / 4, gap = i / 2 % 2, empty = i % 2;
+        if (searched[string][gap][empty] == 0) {
+            printf("hardening: owner has told no %s in %s with%s MemoryLength 0 before\n", gap ? "gap" : "field",
+                   string == RW ? "RW" : "RO", empty ? "" : "out");
+            exit(1);
+        }
+    }
+}
+
 /* 6 is a refusal of RW entries; the first RO entry isn't a 17th. */
 static void demand_pieces(void)
 {
@@ -921,6 +972,7 @@ int main(int words, char **word)
     demand_calls();
     demand_ids();
     demand_limit();
+    demand_searches();
     demand_pieces();
     printf("hardening: %zu calls, seed %zu\n", made, seed);
     return 0;

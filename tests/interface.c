@@ -1,5 +1,5 @@
 /* Checks the C interface: the layout that include/vcs.h promises, and answers worked out by hand from document 01 and
-   notes 1, 7 and 8 of document 02.
+   notes 1, 7, 8 and 12 of document 02.
 
    gcc -std=c11 -Wall -Wextra -Werror -I include tests/interface.c target/staticlib/libvcs.a -o target/interface */
 #include <stdio.h>
@@ -40,11 +40,12 @@ AT(vcs_located, offset, 5);
 ANSWER(vcs_placed, 4);
 AT(vcs_placed, offset, 2);
 AT(vcs_placed, bit, 3);
-ANSWER(vcs_owned, 6);
+ANSWER(vcs_owned, 7);
 AT(vcs_owned, gap, 2);
 AT(vcs_owned, entry, 3);
 AT(vcs_owned, part, 4);
 AT(vcs_owned, lane, 5);
+AT(vcs_owned, looked_at, 6);
 ANSWER(vcs_answer, 3);
 MEMBER(vcs_answer, number, int64_t, 16);
 
@@ -135,13 +136,13 @@ _Static_assert(_Generic(&vcs_take,
 
 static int checks = 0;
 
-/* Compares an answer of up to six numbers; ends the program at the first difference. */
-static void same(const char *name, const void *answer, size_t size, const size_t expected[6])
+/* Compares an answer of up to seven numbers; ends the program at the first difference. */
+static void same(const char *name, const void *answer, size_t size, const size_t expected[7])
 {
-    size_t got[6] = {0};
+    size_t got[7] = {0};
     memcpy(got, answer, size);
     checks++;
-    for (int i = 0; i < 6; i++) {
+    for (int i = 0; i < 7; i++) {
         if (got[i] != expected[i]) {
             printf("interface: %s: number %d is %zu, not %zu\n", name, i, got[i], expected[i]);
             exit(1);
@@ -149,8 +150,8 @@ static void same(const char *name, const void *answer, size_t size, const size_t
     }
 }
 
-/* The numbers of an answer: refusal, at, then the others; 0 where an answer has fewer than six. */
-#define NUMBERS(...) ((const size_t[6]){__VA_ARGS__})
+/* The numbers of an answer: refusal, at, then the others; 0 where an answer has fewer than seven. */
+#define NUMBERS(...) ((const size_t[7]){__VA_ARGS__})
 #define REFUSED(number, at) NUMBERS(number, at)
 
 /* Strings are lent from a copy, which must keep every byte. */
@@ -194,7 +195,7 @@ typedef struct {
     (m).count, lend(0, (m).rw, (m).rw_length), (m).rw_length, lend(1, (m).ro, (m).ro_length), (m).ro_length
 
 /* An answer is as expected, and both strings have kept every byte. */
-static void check(const char *name, map m, const void *answer, size_t size, const size_t expected[6])
+static void check(const char *name, map m, const void *answer, size_t size, const size_t expected[7])
 {
     same(name, answer, size, expected);
     kept(name, 0, m.rw, m.rw_length);
@@ -212,7 +213,7 @@ static void pass(const char *name, map m, vcs_state state, vcs_passed expected)
     same(name, MEMBERS(answer.state), 6 * sizeof(size_t), MEMBERS(expected.state));
 }
 
-static void resume(const char *name, map m, vcs_state state, const size_t expected[6])
+static void resume(const char *name, map m, vcs_state state, const size_t expected[7])
 {
     vcs_loaded answer = vcs_resume(LENT(m), state);
     check(name, m, &answer, sizeof answer, expected);
@@ -238,7 +239,7 @@ static map alone(map m, vcs_state state)
 
 /* The load made entry by entry: it ends as expected and, broken off before any entry, it is taken up again with the answer
    expected. Pass answers alike if the entry's bytes alone are lent. */
-static void in_pieces(const char *name, map m, const size_t expected[6])
+static void in_pieces(const char *name, map m, const size_t expected[7])
 {
     vcs_state state = {0};
     for (;;) {
@@ -260,33 +261,33 @@ static void in_pieces(const char *name, map m, const size_t expected[6])
 }
 
 /* The load, at once and in pieces. */
-static void load(const char *name, map m, const size_t expected[6])
+static void load(const char *name, map m, const size_t expected[7])
 {
     vcs_loaded answer = vcs_load(LENT(m));
     check(name, m, &answer, sizeof answer, expected);
     in_pieces(name, m, expected);
 }
 
-static void entry(const char *name, map m, size_t number, const size_t expected[6])
+static void entry(const char *name, map m, size_t number, const size_t expected[7])
 {
     vcs_located answer = vcs_entry(LENT(m), number);
     check(name, m, &answer, sizeof answer, expected);
 }
 
-static void place(const char *name, map m, size_t set, size_t number, size_t part, size_t lane, const size_t expected[6])
+static void place(const char *name, map m, size_t set, size_t number, size_t part, size_t lane, const size_t expected[7])
 {
     vcs_placed answer = vcs_place(LENT(m), set, number, part, lane);
     check(name, m, &answer, sizeof answer, expected);
 }
 
-static void owner(const char *name, map m, size_t set, size_t offset, size_t bit, const size_t expected[6])
+static void owner(const char *name, map m, size_t set, size_t offset, size_t bit, const size_t expected[7])
 {
     vcs_owned answer = vcs_owner(LENT(m), set, offset, bit);
     check(name, m, &answer, sizeof answer, expected);
 }
 
 /* A step over the RW string. */
-static void take(const char *name, map m, size_t position, const size_t expected[6])
+static void take(const char *name, map m, size_t position, const size_t expected[7])
 {
     vcs_taken answer = vcs_take(m.count, lend(0, m.rw, m.rw_length), m.rw_length, position);
     same(name, &answer, sizeof answer, expected);
@@ -324,7 +325,7 @@ static void put(size_t at, uint8_t byte)
 }
 
 /* As check, and the bank is as wanted. */
-static void check_bank(const char *name, map m, const void *answer, size_t size, const size_t expected[6])
+static void check_bank(const char *name, map m, const void *answer, size_t size, const size_t expected[7])
 {
     check(name, m, answer, size, expected);
     checks++;
@@ -336,62 +337,62 @@ static void check_bank(const char *name, map m, const void *answer, size_t size,
     }
 }
 
-static void fresh(const char *name, map m, const size_t expected[6])
+static void fresh(const char *name, map m, const size_t expected[7])
 {
     vcs_loaded answer = vcs_fresh(LENT(m), BANK);
     check_bank(name, m, &answer, sizeof answer, expected);
 }
 
-static void choose(const char *name, map m, size_t set, size_t lane, size_t app, const size_t expected[6])
+static void choose(const char *name, map m, size_t set, size_t lane, size_t app, const size_t expected[7])
 {
     vcs_answer answer = vcs_select(LENT(m), BANK, set, lane, app);
     check_bank(name, m, &answer, sizeof answer, expected);
 }
 
 static void store(const char *name, map m, size_t set, size_t number, size_t part, size_t lane, int64_t value,
-                  const size_t expected[6])
+                  const size_t expected[7])
 {
     vcs_answer answer = vcs_write(LENT(m), BANK, set, number, part, lane, value);
     check_bank(name, m, &answer, sizeof answer, expected);
 }
 
-static void fetch(const char *name, map m, size_t set, size_t number, size_t part, size_t lane, const size_t expected[6])
+static void fetch(const char *name, map m, size_t set, size_t number, size_t part, size_t lane, const size_t expected[7])
 {
     vcs_answer answer = vcs_read(LENT(m), BANK, set, number, part, lane);
     check_bank(name, m, &answer, sizeof answer, expected);
 }
 
-static void publish(const char *name, map m, size_t number, size_t part, size_t lane, int64_t value, const size_t expected[6])
+static void publish(const char *name, map m, size_t number, size_t part, size_t lane, int64_t value, const size_t expected[7])
 {
     vcs_answer answer = vcs_publish(LENT(m), BANK, number, part, lane, value);
     check_bank(name, m, &answer, sizeof answer, expected);
 }
 
-static void store_byte(const char *name, map m, size_t set, size_t offset, uint8_t byte, const size_t expected[6])
+static void store_byte(const char *name, map m, size_t set, size_t offset, uint8_t byte, const size_t expected[7])
 {
     vcs_answer answer = vcs_byte_write(LENT(m), BANK, set, offset, byte);
     check_bank(name, m, &answer, sizeof answer, expected);
 }
 
-static void fetch_byte(const char *name, map m, size_t set, size_t offset, const size_t expected[6])
+static void fetch_byte(const char *name, map m, size_t set, size_t offset, const size_t expected[7])
 {
     vcs_answer answer = vcs_byte_read(LENT(m), BANK, set, offset);
     check_bank(name, m, &answer, sizeof answer, expected);
 }
 
-static void apply(const char *name, map m, size_t set, uint8_t lanes, const size_t expected[6])
+static void apply(const char *name, map m, size_t set, uint8_t lanes, const size_t expected[7])
 {
     vcs_answer answer = vcs_apply(LENT(m), BANK, set, lanes);
     check_bank(name, m, &answer, sizeof answer, expected);
 }
 
-static void perform(const char *name, map m, vcs_call call, const size_t expected[6])
+static void perform(const char *name, map m, vcs_call call, const size_t expected[7])
 {
     vcs_answer answer = vcs_perform(LENT(m), BANK, call);
     check_bank(name, m, &answer, sizeof answer, expected);
 }
 
-static void weigh(const char *name, map m, size_t number, size_t lane, const size_t expected[6])
+static void weigh(const char *name, map m, size_t number, size_t lane, const size_t expected[7])
 {
     vcs_answer answer = vcs_weight(LENT(m), BANK, number, lane);
     check_bank(name, m, &answer, sizeof answer, expected);
@@ -504,18 +505,22 @@ static void places(void)
     place("1 before 11", m, 0, 3, 0, 1, REFUSED(1, 4));
 }
 
+/* The answers of owner: a field or a gap, each with the entries looked at. */
+#define FIELD(entry, part, lane, looked_at) NUMBERS(0, 0, 0, entry, part, lane, looked_at)
+#define GAP(looked_at) NUMBERS(0, 0, 1, 0, 0, 0, looked_at)
+
 static void owners(void)
 {
     map m = THE_MAP;
-    owner("02h, lane 1, set 0", m, 0, 0, 0, NUMBERS(0, 0, 0, 0, 0, 1));
-    owner("05h, lane 8, set 1", m, 1, 3, 7, NUMBERS(0, 0, 0, 2, 0, 8));
-    owner("05h, lane 4, active", m, 2, 3, 3, NUMBERS(0, 0, 0, 2, 0, 4));
-    owner("11h, upper eye, lane 8", m, 2, 11, 7, NUMBERS(0, 0, 0, 3, 0, 8));
-    owner("11h, lower eye, lane 1", m, 2, 12, 5, NUMBERS(0, 0, 0, 3, 1, 1));
-    owner("12h, lane 8", m, 2, 27, 0, NUMBERS(0, 0, 0, 4, 0, 8));
-    owner("reserved, set 0", m, 0, 1, 0, NUMBERS(0, 0, 1, 0, 0, 0));
-    owner("reserved, active", m, 2, 2, 7, NUMBERS(0, 0, 1, 0, 0, 0));
-    owner("surplus of 12h", m, 2, 28, 0, NUMBERS(0, 0, 1, 0, 0, 0));
+    owner("02h, lane 1, set 0", m, 0, 0, 0, FIELD(0, 0, 1, 1));
+    owner("05h, lane 8, set 1", m, 1, 3, 7, FIELD(2, 0, 8, 3));
+    owner("05h, lane 4, active", m, 2, 3, 3, FIELD(2, 0, 4, 3));
+    owner("11h, upper eye, lane 8", m, 2, 11, 7, FIELD(3, 0, 8, 4));
+    owner("11h, lower eye, lane 1", m, 2, 12, 5, FIELD(3, 1, 1, 4));
+    owner("12h, lane 8", m, 2, 27, 0, FIELD(4, 0, 8, 5));
+    owner("reserved, set 0", m, 0, 1, 0, GAP(2));
+    owner("reserved, active", m, 2, 2, 7, GAP(2));
+    owner("surplus of 12h", m, 2, 28, 0, GAP(5));
     owner("the active length", m, 2, 29, 0, REFUSED(10, 0));
     owner("the staged length, set 0", m, 0, 4, 0, REFUSED(10, 0));
     owner("space of RO in set 1", m, 1, 20, 0, REFUSED(10, 0));
@@ -532,6 +537,72 @@ static void owners(void)
     owner("1 before 10", m, 3, 29, 8, REFUSED(1, 4));
 }
 
+/* A byte of the RW space has one owner in every set. */
+static void owner_in_all(const char *name, map m, size_t offset, size_t bit, const size_t expected[7])
+{
+    for (size_t set = 0; set <= 2; set++) {
+        owner(name, m, set, offset, bit, expected);
+    }
+}
+
+/* 02h of 2 bytes, media side, which cover the byte; then an entry that is refused. */
+static void refused_behind(const char *name, const uint8_t *bytes, size_t length, size_t number)
+{
+    uint8_t rw[32] = {0x02, 0x05, 0x0F, 0x02, 0x01};
+    memcpy(rw + 5, bytes, length);
+    owner_in_all(name, (map){4, rw, 5 + length, NONE}, 0, 0, REFUSED(number, 1));
+}
+
+/* 00h, 13h and 01h of no byte; 02h; 00h of none; 13h of 3 bytes at offset 1; 00h and FFh of none; 04h of 6 at 4; 00h of none.
+   00h and 13h of none; 12h of 8 bytes at 10; 00h of none; FFh of 2 at 18; 00h of none. */
+#define THE_EMPTY \
+    {4, \
+     BYTES(0x00, 0x04, 0x00, 0x00, 0x13, 0x04, 0x00, 0x00, 0x01, 0x04, 0x00, 0x00, 0x02, 0x05, 0x0F, 0x01, 0x00, \
+           0x00, 0x04, 0x00, 0x00, 0x13, 0x04, 0x00, 0x03, 0x00, 0x04, 0x00, 0x00, 0xFF, 0x04, 0x00, 0x00, \
+           0x04, 0x07, 0x0F, 0x06, 0x00, 0xFF, 0xFF, 0x00, 0x04, 0x00, 0x00), \
+     BYTES(0x00, 0x04, 0x00, 0x00, 0x13, 0x04, 0x00, 0x00, 0x12, 0x07, 0x0F, 0x08, 0x00, 0x00, 0x00, \
+           0x00, 0x04, 0x00, 0x00, 0xFF, 0x04, 0x00, 0x02, 0x00, 0x04, 0x00, 0x00)}
+
+/* The entries looked at: up to the one whose space covers the byte. */
+static void searches(void)
+{
+    map m = THE_EMPTY;
+    load("entries of no byte", m, NUMBERS(0, 0, 10, 6, 10, 20));
+    owner_in_all("three of no byte before 02h", m, 0, 7, FIELD(3, 0, 8, 4));
+    owner_in_all("four, and the first byte of 13h", m, 1, 0, GAP(6));
+    owner_in_all("the last byte of 13h", m, 3, 7, GAP(6));
+    owner_in_all("six, and 04h, lane 1", m, 4, 3, FIELD(8, 0, 1, 9));
+    owner_in_all("04h, lane 8", m, 7, 4, FIELD(8, 0, 8, 9));
+    owner_in_all("surplus of 04h", m, 8, 0, GAP(9));
+    owner_in_all("the last RW byte", m, 9, 7, GAP(9));
+    owner("the first RO byte", m, 2, 10, 0, FIELD(12, 0, 1, 13));
+    owner("12h, lane 8", m, 2, 17, 7, FIELD(12, 0, 8, 13));
+    owner("ten, and FFh", m, 2, 18, 0, GAP(15));
+    owner("the last byte", m, 2, 19, 7, GAP(15));
+    owner("the active length", m, 2, 20, 0, REFUSED(10, 0));
+    owner("the staged length, set 0", m, 0, 10, 0, REFUSED(10, 0));
+    owner("the staged length, set 1", m, 1, 10, 0, REFUSED(10, 0));
+    owner("bit 8", m, 2, 0, 8, REFUSED(10, 0));
+
+    m = (map){4, NONE, BYTES(0x00, 0x04, 0x00, 0x00, 0x11, 0x05, 0x0F, 0x11, 0x00)};
+    owner("RO alone", m, 2, 8, 0, FIELD(1, 1, 1, 2));
+    owner("surplus of 11h", m, 2, 16, 0, GAP(2));
+    m = (map){9, BYTES(0x00, 0x05, 0x00, 0x00, 0x00, 0x07, 0x09, 0x01, 0xFF, 0x09, 0x00, 0x00, 0xFF, 0xFF), NONE};
+    owner_in_all("two mask bytes", m, 7, 7, FIELD(1, 1, 8, 2));
+    owner_in_all("surplus with two mask bytes", m, 8, 0, GAP(2));
+    m = (map){4, BYTES(0x00, 0x04, 0x00, 0xFF), BYTES(0x00, 0x04, 0x00, 0x01)};
+    owner_in_all("P12, the last of 255 bytes", m, 254, 0, GAP(1));
+    owner("P12, the byte behind", m, 2, 255, 7, GAP(2));
+
+    refused_behind("1, one byte left", BYTES(0x02), 1);
+    refused_behind("2, Length 0", BYTES(0x02, 0x00), 2);
+    refused_behind("3, 11h in RW", BYTES(0x11, 0x05, 0x0F, 0x10, 0x00), 3);
+    refused_behind("4, 03h of 1 byte", BYTES(0x03, 0x05, 0x0F, 0x01, 0x01), 4);
+    refused_behind("5, 09h of step 0", BYTES(0x09, 0x09, 0x01, 0x08, 0x00, 0x00, 0xF8, 0x06, 0x00), 5);
+    refused_behind("6, host side", BYTES(0x02, 0x05, 0x0F, 0x01, 0x00), 6);
+    refused_behind("7, 255 bytes more", BYTES(0x00, 0x04, 0x00, 0xFF), 7);
+}
+
 /* 02h, 03h at offset 1, 04h at 3 with mask 1FFFh, 00h that reserves 2, 07h at 9 with mask 0FFFh. */
 #define THE_SETTINGS \
     {4, \
@@ -546,10 +617,10 @@ static void settings(void)
     place("P3", m, 1, 2, 0, 2, NUMBERS(0, 0, 3, 4));
     place("P4", m, 2, 2, 0, 7, NUMBERS(0, 0, 6, 0));
     place("P5", m, 0, 4, 1, 1, NUMBERS(0, 0, 13, 0));
-    owner("P2", m, 0, 2, 0, NUMBERS(0, 0, 0, 1, 0, 5));
-    owner("P3", m, 1, 3, 4, NUMBERS(0, 0, 0, 2, 0, 2));
-    owner("P4", m, 2, 6, 0, NUMBERS(0, 0, 0, 2, 0, 7));
-    owner("P5", m, 0, 13, 0, NUMBERS(0, 0, 0, 4, 1, 1));
+    owner("P2", m, 0, 2, 0, FIELD(1, 0, 5, 2));
+    owner("P3", m, 1, 3, 4, FIELD(2, 0, 2, 3));
+    owner("P4", m, 2, 6, 0, FIELD(2, 0, 7, 3));
+    owner("P5", m, 0, 13, 0, FIELD(4, 1, 1, 5));
 }
 
 static void fresh_banks(void)
@@ -936,7 +1007,7 @@ static void numbers(void)
     memset(wanted, 0, VCS_BANK_SIZE);
     fresh("the numbers' map", m, NUMBERS(0, 0, 7, 0, 38, 38));
     place("0Dh, lane 3", m, 0, 1, 0, 3, NUMBERS(0, 0, 3, 0));
-    owner("0Dh, lane 3", m, 2, 3, 7, NUMBERS(0, 0, 0, 1, 0, 3));
+    owner("0Dh, lane 3", m, 2, 3, 7, FIELD(1, 0, 3, 2));
     place("0Eh, lane 8", m, 1, 5, 0, 8, NUMBERS(0, 0, 36, 4));
     place("0Bh, lane 8", m, 1, 6, 0, 8, NUMBERS(0, 0, 37, 7));
     place("part 1 of 0Dh", m, 0, 1, 1, 3, REFUSED(10, 0));
@@ -1198,8 +1269,12 @@ static void full_strings(void)
     entry("entry 32", m, 32, REFUSED(10, 0));
     place("entry 15, lane 8", m, 1, 15, 0, 8, NUMBERS(0, 0, 15, 7));
     place("entry 31, lane 8", m, 2, 31, 0, 8, NUMBERS(0, 0, 143, 0));
-    owner("entry 15, lane 8", m, 0, 15, 7, NUMBERS(0, 0, 0, 15, 0, 8));
-    owner("entry 31, lane 8", m, 2, 143, 0, NUMBERS(0, 0, 0, 31, 0, 8));
+    owner("entry 15, lane 8", m, 0, 15, 7, FIELD(15, 0, 8, 16));
+    owner("entry 31, lane 8", m, 2, 143, 0, FIELD(31, 0, 8, 32));
+    for (size_t i = 0; i < VCS_ENTRY_LIMIT; i++) {
+        owner_in_all("an RW entry, lane 2", m, i, 1, FIELD(i, 0, 2, i + 1));
+        owner("an RO entry, lane 1", m, 2, 16 + 8 * i, 0, FIELD(16 + i, 0, 1, 17 + i));
+    }
     fill(0xFF);
     memset(wanted, 0, VCS_BANK_SIZE);
     fresh("16 and 16 entries", m, NUMBERS(0, 0, 16, 16, 16, 144));
@@ -1233,7 +1308,7 @@ static const char *given(const char *call, const char *name)
 }
 
 /* Every call that loads refuses a map alike, perform with the largest numbers, and keeps the bank. */
-static void refused_by_all(const char *name, map m, const size_t expected[6])
+static void refused_by_all(const char *name, map m, const size_t expected[7])
 {
     load(given("load", name), m, expected);
     entry(given("entry", name), m, 0, expected);
@@ -1333,8 +1408,15 @@ static void spaces(void)
         for (size_t i = 0; i < sizeof bytes; i += size) {
             bytes[i + 1] = (uint8_t)size;
         }
-        map m = {count, bytes, sizeof bytes, NONE};
-        load("16 and 16 spaces", (map){count, bytes, full, bytes, full}, NUMBERS(0, 0, 16, 16, 0, 0));
+        map m = {count, bytes, sizeof bytes, NONE}, both = {count, bytes, full, bytes, full};
+        load("16 and 16 spaces", both, NUMBERS(0, 0, 16, 16, 0, 0));
+        owner("no byte in 32 spaces", both, 2, 0, 0, REFUSED(10, 0));
+        uint8_t last[120];
+        memcpy(last, bytes, sizeof last);
+        last[full - 1] = 1;
+        owner("the last of 32 spaces has the byte", (map){count, bytes, full, last, full}, 2, 0, 7, GAP(32));
+        owner_in_all("the last of 16, 16 behind", (map){count, last, full, bytes, full}, 0, 0, GAP(16));
+        owner("and then the last of 32", (map){count, last, full, last, full}, 2, 1, 0, GAP(32));
         load("120 bytes of spaces in RW", m, REFUSED(16, 16));
         load("120 bytes of spaces in RO", (map){count, bytes, full, bytes, sizeof bytes}, REFUSED(16, 32));
         for (size_t at = 0; at < sizeof bytes; at += size) {
@@ -1534,6 +1616,7 @@ int main(void)
     entries();
     places();
     owners();
+    searches();
     settings();
     fresh_banks();
     selects();

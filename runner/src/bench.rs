@@ -88,6 +88,15 @@ struct Args {
 }
 
 impl Args {
+    /// Arguments that name a field of this entry in a set, its byte there and a value.
+    fn naming(case: &Case, set: usize, (entry, value): (usize, i64)) -> Args {
+        let offset = engine::place(case.count, case.rw, case.ro, set, entry, 0, LANE).offset;
+        let position = engine::entry(case.count, case.rw, case.ro, entry).start;
+        let call =
+            FlatCall { kind: 1, set, entry, part: 0, lane: LANE, offset, app: APP, value, byte: 0x21, lanes: 0xFF };
+        Args { call, bit: 4, position, from: [0, 0], state: State::default() }
+    }
+
     fn lent<'a>(&self, map: &'a Flat) -> Case<'a> {
         let Case { count, rw, ro } = map.case();
         Case { count, rw: &rw[self.from[RW]..], ro: &ro[self.from[RO]..] }
@@ -123,14 +132,7 @@ impl Subject {
     fn new(named: &Named) -> Subject {
         let map = Flat { count: 4, strings: [hex(named.rw), hex(named.ro)] };
         let case = map.case();
-        let args = |set, (entry, value)| {
-            let offset = engine::place(case.count, case.rw, case.ro, set, entry, 0, LANE).offset;
-            let position = engine::entry(case.count, case.rw, case.ro, entry).start;
-            let call =
-                FlatCall { kind: 1, set, entry, part: 0, lane: LANE, offset, app: APP, value, byte: 0x21, lanes: 0xFF };
-            Args { call, bit: 4, position, from: [0, 0], state: State::default() }
-        };
-        let (staged, active) = (args(0, named.written), args(2, named.published));
+        let (staged, active) = (Args::naming(&case, 0, named.written), Args::naming(&case, 2, named.published));
         let bank = planned(&case);
         let entries = engine::load(case.count, case.rw, case.ro).entries();
         Subject { name: named.name, map, entries, bank, staged, active }
@@ -138,7 +140,7 @@ impl Subject {
 
     /// Arguments that name a field of this entry in the active set.
     fn naming(&self, entry: usize) -> Args {
-        Args { call: FlatCall { entry, ..self.active.call }, ..self.active }
+        Args::naming(&self.map.case(), self.active.set, (entry, self.active.value))
     }
 
     /// Arguments of a load that was broken off after so many entries.
@@ -356,8 +358,8 @@ pub fn run() {
     bench.print();
 }
 
-/// Every call once; then entry and read for the first, the middle and the last of all entries, which have fields, and a load
-/// that was broken off there.
+/// Every call once; then entry, owner and read for the first, the middle and the last of all entries, which have fields, and a
+/// load that was broken off there.
 #[rustfmt::skip]
 fn rows(bench: &mut Bench) {
     let staged = |subject: &Subject| subject.staged;
@@ -392,6 +394,9 @@ fn rows(bench: &mut Bench) {
     row!(bench, "entry, first entry", entry::CALL, first, |_, a| entry(a.entry));
     row!(bench, "entry, middle entry", entry::CALL, middle, |_, a| entry(a.entry));
     row!(bench, "entry, last entry", entry::CALL, last, |_, a| entry(a.entry));
+    row!(bench, "owner, first entry", owner::CALL, first, |_, a| owner(a.set, a.offset, a.bit));
+    row!(bench, "owner, middle entry", owner::CALL, middle, |_, a| owner(a.set, a.offset, a.bit));
+    row!(bench, "owner, last entry", owner::CALL, last, |_, a| owner(a.set, a.offset, a.bit));
     row!(bench, "read, first entry", READ, first, |bank, a| read(bank, a.set, a.entry, a.part, a.lane));
     row!(bench, "read, middle entry", READ, middle, |bank, a| read(bank, a.set, a.entry, a.part, a.lane));
     row!(bench, "read, last entry", READ, last, |bank, a| read(bank, a.set, a.entry, a.part, a.lane));

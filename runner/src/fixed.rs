@@ -41,6 +41,13 @@ const BASE: [&str; 2] = [
     WHOLE[1],
 ];
 
+/// Entries of MemoryLength 0 before, between and behind others, in both strings; for count 4. 02h has the offset 0, 03h 1 to 3
+/// with a gap, 12h 4 to 11, 13h 12 and 13.
+pub const SPARSE: [&str; 2] = [
+    "13 04 00 00 02 05 0F 01 00 00 04 00 00 FF 04 00 00 03 05 0F 03 00 01 04 00 00",
+    "00 04 00 00 12 07 0F 08 00 00 00 13 04 00 02 20 04 00 00",
+];
+
 /// Both entry counts, staged and active length.
 pub fn accepted(rw_count: usize, ro_count: usize, staged_length: usize, active_length: usize) -> Loaded {
     Loaded { refusal: 0, at: 0, rw_count, ro_count, staged_length, active_length }
@@ -141,6 +148,7 @@ fn few_entries() -> Vec<InHex> {
         ("media side in RO", 4, "", "11 05 00 10 01 12 07 00 08 00 00 00", accepted(0, 2, 0, 24)),
         ("every ID of the table", 4, WHOLE[0], WHOLE[1], accepted(16, 6, 77, 127)),
         ("every ID of the table but note 1's", 4, BASE[0], BASE[1], accepted(9, 6, 39, 89)),
+        ("entries of MemoryLength 0", 4, SPARSE[0], SPARSE[1], accepted(6, 4, 4, 14)),
         ("P10, P11 and 07h without 12", 9,
          "04 08 01 FF 04 00 1F FF 08 08 01 FF 05 00 FF FF 07 09 01 FF 08 00 FF EF FF", "", accepted(3, 0, 17, 17)),
         ("09h", 4, "09 09 0F 08 00 00 F8 06 01", "", accepted(1, 0, 8, 8)),

@@ -8,6 +8,7 @@ mod damaged;
 mod engine;
 mod fixed;
 mod lists;
+mod owners;
 mod peer;
 mod program;
 mod random;
@@ -60,6 +61,7 @@ fn compare() -> bool {
 
     fixed::compare(&mut report);
     broken_off::compare(&mut report);
+    owners::compare(&mut report);
     for seed in 0..WHOLE_MAPS {
         calls::compare_all(&mut report, &valid::valid(&Random::new(seed)).flat().case(), &[]);
         calls::compare_all(&mut report, &damaged::damaged(&Random::new(seed)).case(), &[]);

@@ -1,17 +1,18 @@
 //! A second, independent rendering of the paper "The versatile control set:
-//! maps, banks and applied settings", with notes 1, 7 and 8 of its change
-//! requests, "The numeric parameters", "Sixteen entries" and "One walk through
-//! the strings". Words in quotes are the paper's, or a note's or the agreement's
-//! where these are named.
+//! maps, banks and applied settings", with notes 1, 7, 8 and 12 of its change
+//! requests, "The numeric parameters", "Sixteen entries", "One walk through the
+//! strings" and "Finding an owner early". Words in quotes are the paper's, or a
+//! note's or the agreement's where these are named.
 //!
 //! Method: both strings are read in one pass into a list of entries, or the
 //! refusal (`map`). A load broken off is taken up again with one entry that
 //! stands for all that were passed; its next entry alone is judged by the
 //! numbers kept (`kept`). The map is then expanded into one owner for every bit
 //! of a set, and a bank into a dictionary of numbers (`bank`). Every question is
-//! answered from these. The plain table (`table`) judges calls and places
-//! fields by its own rendering of the same words, so that the two can be run
-//! against each other.
+//! answered from these; the entries that owner looks at are counted on the list
+//! by where they begin. The plain table (`table`) judges calls and places fields
+//! by its own rendering of the same words, so that the two can be run against
+//! each other.
 
 #![forbid(unsafe_code)]
 
@@ -94,6 +95,15 @@ pub struct EntryInfo {
     pub offset: usize,
     pub memory: usize,
     pub in_ro: bool,
+}
+
+/// Owner's answer: "entry, part and lane, or gap". Note 12: "The answer also
+/// carries the number of entries looked at", with a gap too.
+#[derive(Clone, Copy, Debug, PartialEq, Eq)]
+pub struct Owned {
+    /// Entry, part and lane; None is a gap.
+    pub field: Option<(usize, usize, usize)>,
+    pub looked_at: usize,
 }
 
 /// The calls of the paper's list, fresh apart. Lanes count from 1.

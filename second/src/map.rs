@@ -384,6 +384,14 @@ impl Map {
         }
     }
 
+    /// Note 12, "the number of entries looked at" for a byte below a set's
+    /// length: those that begin at or before the byte. All that are passed do,
+    /// MemoryLength 0 or not, and so does the one "whose space covers the byte";
+    /// what follows begins behind that space.
+    pub fn looked_at(&self, byte: usize) -> usize {
+        self.entries.iter().filter(|e| e.info.offset <= byte).count()
+    }
+
     /// "that the set holds (staged: RW only)"
     pub fn set_holds(&self, set: usize, entry: usize) -> bool {
         self.entries.get(entry).is_some_and(|e| set == 2 || !e.info.in_ro)

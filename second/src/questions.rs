@@ -2,7 +2,7 @@
 
 use crate::judge;
 use crate::map::{Map, Owner};
-use crate::{EntryInfo, Loaded, Refusal};
+use crate::{EntryInfo, Loaded, Owned, Refusal};
 
 /// "The load is the check of both strings."
 pub fn load(count: usize, rw: &[u8], ro: &[u8]) -> Result<Loaded, Refusal> {
@@ -38,7 +38,9 @@ pub fn place(
     Ok((at / 8, at % 8))
 }
 
-/// "owner (set, offset, bit 0 to 7) answers entry, part and lane, or gap".
+/// "owner (set, offset, bit 0 to 7) answers entry, part and lane, or gap"; note
+/// 12: "The answer also carries the number of entries looked at", "Its other
+/// fields stay as they were." A refusal carries no count.
 pub fn owner(
     count: usize,
     rw: &[u8],
@@ -46,13 +48,14 @@ pub fn owner(
     set: usize,
     offset: usize,
     bit: usize,
-) -> Result<Option<(usize, usize, usize)>, Refusal> {
+) -> Result<Owned, Refusal> {
     let map = Map::read(count, rw, ro)?;
     judge::set_10(set)?;
     judge::offset_10(&map, set, offset)?;
     judge::bit_10(bit)?;
     let owners = map.owners(set);
-    Ok(owners[offset * 8 + bit].map(|owner| owner.field()))
+    let field = owners[offset * 8 + bit].map(|owner| owner.field());
+    Ok(Owned { field, looked_at: map.looked_at(offset) })
 }
 
 /// "the entry call (entry number) hands back that entry's own bytes, as a part

@@ -66,7 +66,7 @@ fn p1() {
 fn p2() {
     let rw = [entry(0x00, 0, 1, &[]), entry(0x03, 1, 2, &[0])].concat();
     assert_eq!(place(4, &rw, &[], 0, 1, 0, 5), Ok((2, 0)));
-    assert_eq!(owner(4, &rw, &[], 1, 2, 0), Ok(Some((1, 0, 5))));
+    assert_eq!(owner(4, &rw, &[], 1, 2, 0), Ok(owned((1, 0, 5), 2)));
 }
 
 /// "P3 04h at 3, lane 2: byte 3, bit 4. P4 04h at 3, lane 7: byte 6, bit 0."

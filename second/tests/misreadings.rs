@@ -14,8 +14,8 @@ fn opaque_takes_its_space() {
     let third = EntryInfo { id: 0x0F, start: 11, length: 5, offset: 7, memory: 8, in_ro: false };
     assert_eq!(list, [first, second, third]);
     assert_eq!(place(2, &rw, &[], 0, 2, 0, 8), Ok((14, 0)));
-    assert_eq!(owner(2, &rw, &[], 0, 6, 7), Ok(None));
-    assert_eq!(owner(2, &rw, &[], 0, 7, 0), Ok(Some((2, 0, 1))));
+    assert_eq!(owner(2, &rw, &[], 0, 6, 7), Ok(gap(1)));
+    assert_eq!(owner(2, &rw, &[], 0, 7, 0), Ok(owned((2, 0, 1), 3)));
 }
 
 /// "Moving the map when an AppSel lacks a parameter: the map follows the

@@ -137,13 +137,14 @@ fn places() {
                 assert_eq!(place(1, &rw, &[], set, entry, 0, lane), Ok((byte, bit)));
                 assert_eq!(place(1, &rw, &[], set, entry, 1, lane), Err(caller(10)));
                 for high in bit..bit + w {
-                    assert_eq!(owner(1, &rw, &[], set, byte, high), Ok(Some((entry, 0, lane))));
+                    let said = owned((entry, 0, lane), entry + 1);
+                    assert_eq!(owner(1, &rw, &[], set, byte, high), Ok(said));
                 }
             }
         }
     }
     // Surplus MemoryLength is a gap.
-    assert_eq!(owner(1, &rw, &[], 0, 12, 0), Ok(None));
+    assert_eq!(owner(1, &rw, &[], 0, 12, 0), Ok(gap(3)));
 }
 
 /// Min to Max, both in; one number; no 0; Min above Max: none.

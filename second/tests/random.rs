@@ -68,7 +68,7 @@ fn other_bits_keep_their_content() {
                 }
                 let (byte, bit) = (at / 8, at % 8);
                 let of = |set: usize| match set == byte / 256 && byte < 768 {
-                    true => owner(count, &rw, &ro, set, byte % 256, bit).ok().flatten(),
+                    true => owner(count, &rw, &ro, set, byte % 256, bit).ok()?.field,
                     false => None,
                 };
                 match call {
@@ -103,14 +103,14 @@ fn other_bits_keep_their_content() {
                 Call::ByteWrite { set, offset, byte } => {
                     let stored = bank[256 * set + offset];
                     for bit in 0..8 {
-                        let gap = owner(count, &rw, &ro, set, offset, bit) == Ok(None);
+                        let gap = owner(count, &rw, &ro, set, offset, bit).unwrap().field.is_none();
                         assert_eq!(stored >> bit & 1, if gap { 0 } else { byte >> bit & 1 });
                     }
                 }
                 Call::ByteRead { set, offset } => {
                     let mut shown = 0;
                     for bit in 0..8 {
-                        if owner(count, &rw, &ro, set, offset, bit) != Ok(None) {
+                        if owner(count, &rw, &ro, set, offset, bit).unwrap().field.is_some() {
                             shown |= bank[256 * set + offset] & 1 << bit;
                         }
                     }
@@ -163,7 +163,8 @@ fn place_and_owner_agree() {
             let mut owned = 0;
             for offset in 0..length {
                 for bit in 0..8 {
-                    if let Some((entry, part, lane)) = owner(count, &rw, &ro, set, offset, bit).unwrap() {
+                    let said = owner(count, &rw, &ro, set, offset, bit).unwrap();
+                    if let Some((entry, part, lane)) = said.field {
                         let (byte, low) = place(count, &rw, &ro, set, entry, part, lane).unwrap();
                         assert!(byte == offset && low <= bit);
                         owned += 1;

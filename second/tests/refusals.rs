@@ -245,10 +245,10 @@ fn bytes_publish_weight() {
     }
     assert_eq!(owner(3, &rw, &ro, 0, 0, 8), Err(caller(10)));
     assert_eq!(owner(3, &rw, &ro, 0, 0, huge), Err(caller(10)));
-    assert_eq!(owner(3, &rw, &ro, 0, 16, 0), Ok(None));
-    assert_eq!(owner(3, &rw, &ro, 2, 17, 7), Ok(Some((4, 0, 1))));
-    assert_eq!(owner(3, &rw, &ro, 2, 42, 3), Ok(Some((6, 0, 8))));
-    assert_eq!(owner(3, &rw, &ro, 2, 33, 0), Ok(None));
+    assert_eq!(owner(3, &rw, &ro, 0, 16, 0), Ok(gap(4)));
+    assert_eq!(owner(3, &rw, &ro, 2, 17, 7), Ok(owned((4, 0, 1), 5)));
+    assert_eq!(owner(3, &rw, &ro, 2, 42, 3), Ok(owned((6, 0, 8), 7)));
+    assert_eq!(owner(3, &rw, &ro, 2, 33, 0), Ok(gap(6)));
     assert_eq!(pair.byte_write(0, 16, 0xFF), Answer::Yes);
     assert_eq!(pair.byte_read(0, 16), Answer::Number(0));
     assert_eq!(pair.byte_write(1, 4, 0xED), Answer::Yes);

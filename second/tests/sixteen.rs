@@ -263,7 +263,7 @@ fn calls_on_a_full_map() {
     let mut pair = Pair::fresh(4, &rw, &ro);
     assert_eq!(place(4, &rw, &ro, 1, 15, 1, 8), Ok((15 + 7, 4)));
     assert_eq!(place(4, &rw, &ro, 2, 31, 0, 8), Ok((23 + 15 + 7, 0)));
-    assert_eq!(owner(4, &rw, &ro, 2, 45, 7), Ok(Some((31, 0, 8))));
+    assert_eq!(owner(4, &rw, &ro, 2, 45, 7), Ok(owned((31, 0, 8), 32)));
     assert_eq!(entry_bytes(4, &rw, &ro, 15), Ok(&rw[60..]));
     assert_eq!(entry_bytes(4, &rw, &ro, 31), Ok(&ro[60..]));
     assert_eq!(entry_bytes(4, &rw, &ro, 32), Err(caller(10)));
@@ -417,7 +417,8 @@ fn calls_as_an_unlimited_walk() {
                 let b = (lane - 1) * w;
                 let at = (info.offset + part * w + b / 8, b % 8);
                 assert_eq!(place(count, &rw, &ro, 2, number, part, lane), Ok(at));
-                assert_eq!(owner(count, &rw, &ro, 2, at.0, at.1), Ok(Some((number, part, lane))));
+                let said = owned((number, part, lane), number + 1);
+                assert_eq!(owner(count, &rw, &ro, 2, at.0, at.1), Ok(said));
             }
         }
         let mut pair = Pair::fresh(count, &rw, &ro);

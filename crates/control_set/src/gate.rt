@@ -111,6 +111,7 @@ fn admit_byte_within(
             offset: start,
             parts,
             width,
+            looked: _,
             ro: in_ro,
         } => {
             if !((set < 3) & !((set < 2) & in_ro)) {

@@ -304,21 +304,23 @@ pub fn entries(count: usize, rw: &[u8], ro: &[u8], list: &mut [[u16; 9]; ENTRY_L
     loaded
 }
 
-// The entry whose space covers a byte of a set: its number, where its fields lie, and the string that it stands in (last: with the
-// flag first the compiler builds the answer twice).
+// The entry whose space covers a byte of a set: its number, where its fields lie, the number of entries looked at, and the string that
+// it stands in (last: with the flag first the compiler builds the answer twice).
 pub enum Covered {
     By {
         number: usize,
         offset: usize,
         parts: usize,
         width: usize,
+        looked: usize,
         ro: bool,
     },
     Nothing,
     Refused(Refusal),
 }
 
-// The first entry whose space covers a byte, once the load has accepted the strings: those of the RW string, then those of the RO string.
+// The first entry whose space covers a byte, once the load has accepted the strings: those of the RW string are looked at, then those of
+// the RO string, and none past it.
 pub fn cover(count: usize, rw: &[u8], ro: &[u8], offset: usize) -> Covered
     ensures { λ r. ⌜ r ≡ coverOf count (now (rw .entry)) (now (ro .entry)) offset ⌝ }
 {
@@ -345,7 +347,7 @@ fn cover_within(count: usize, rw: &[u8], ro: &[u8], offset: usize) -> Covered
             let a = mask_bytes(count);
             let classes = CLASSES;
             let shapes = SHAPES;
-            let first = look(a, rw, 0, rw_count, offset);
+            let first = look(a, rw, 0, rw_count, offset, 0);
             if first.number < rw_count {
                 let f = named_at(&classes, &shapes, false, a, rw, first.at, first.sum);
                 return Covered::By {
@@ -353,10 +355,11 @@ fn cover_within(count: usize, rw: &[u8], ro: &[u8], offset: usize) -> Covered
                     offset: f.offset,
                     parts: f.parts,
                     width: f.width,
+                    looked: first.looked,
                     ro: false,
                 };
             }
-            let last = look(a, ro, staged_length, ro_count, offset);
+            let last = look(a, ro, staged_length, ro_count, offset, first.looked);
             if last.number < ro_count {
                 let f = named_at(&classes, &shapes, true, a, ro, last.at, last.sum);
                 return Covered::By {
@@ -364,6 +367,7 @@ fn cover_within(count: usize, rw: &[u8], ro: &[u8], offset: usize) -> Covered
                     offset: f.offset,
                     parts: f.parts,
                     width: f.width,
+                    looked: last.looked,
                     ro: true,
                 };
             }

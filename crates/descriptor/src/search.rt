@@ -1,8 +1,9 @@
 // The search for an entry by its number, and by a byte that its space covers, once the load has accepted the strings.
 ghost use mathlib.Core.Path.{_≡_};
-ghost use Prim.Native.Nat.{_≤_};
+ghost use Prim.Native.Nat.{_+_, _*_, _≤_};
+ghost use Rattle.rules.specs.Descriptor.{entryLimit};
 ghost use Rattle.descriptor.specs.Marks.{past as pastOf, OnEntry, markAfter, Passable};
-ghost use Rattle.descriptor.specs.Cover.{Hits};
+ghost use Rattle.descriptor.specs.Cover.{Reachable, Hits};
 
 // Where an entry stands in a string and in a set: its start and its offset.
 pub struct Mark {
@@ -36,29 +37,35 @@ pub fn seek(a: usize, s: &[u8], sum: usize, n: usize) -> Mark
     mark
 }
 
-// Where a search for a byte ends: how many entries of a string it passed, and where the next one stands.
+// Where a search for a byte ends: how many entries it looked at, how many of a string it passed, and where the next one stands.
 pub struct Hit {
+    pub looked: usize,
     pub number: usize,
     pub at: usize,
     pub sum: usize,
 }
 
-// Past the entries of a string up to the first whose space ends past a byte, or past all n.
-pub fn look(a: usize, s: &[u8], sum: usize, n: usize, offset: usize) -> Hit
-    requires { ⌜ Passable a (now s) sum n × (sum ≤ offset) ⌝ }
-    ensures { λ r. ⌜ Hits a (now (s .entry)) sum n offset r ⌝ }
+// Past the entries of a string up to the first whose space ends past a byte, or past all n. Every entry that is looked at is counted,
+// with those looked at before; of none behind that first one is anything known, so that none can be read.
+pub fn look(a: usize, s: &[u8], sum: usize, n: usize, offset: usize, before: usize) -> Hit
+    requires { ⌜ Reachable a (now s) sum n offset × (sum ≤ offset) × (before + n ≤ 2 * entryLimit) ⌝ }
+    ensures { λ r. ⌜ Hits a (now (s .entry)) sum n offset before r ⌝ }
 {
     let mut mark = Mark { at: 0, sum };
     let mut number = 0;
+    let mut looked = before;
     while number < n {
         let after = past(a, s, mark);
-        if offset < after.sum {
+        let end = after.sum;
+        looked += 1;
+        if offset < end {
             break;
         }
         mark = after;
         number += 1;
     }
     Hit {
+        looked,
         number,
         at: mark.at,
         sum: mark.sum,

@@ -2,7 +2,7 @@
 use mathlib.Core.Path.{_≡_}
 use mathlib.Core.Logic.{_↔_}
 use mathlib.Core.List.{List}
-use Prim.Native.Nat.{ℕ}
+use Prim.Native.Nat.{ℕ, suc}
 use Rattle.rules.specs.declared.Placed.the-variants.{At as placedAt}
 use Rattle.rules.specs.declared.Owned.the-variants.{Field as ownedBy}
 use Rattle.rules.specs.Beside.{placeOf, ownerCall}
@@ -10,10 +10,10 @@ use Rattle.rules.specs.Demands.{Accepted, PlaceCovers}
 use Rattle.rules.proofs.Demands.{demand2}
 
 module _ (count : ℕ) (rw ro : List ℕ) (ok : Accepted count rw ro) where
-  -- a bit's owner is the field whose place covers it, and no other
-  pub owner-of-place : (s k q e p i : ℕ) → (ownerCall count rw ro s k q ≡ ownedBy e p i) ↔ PlaceCovers count rw ro s e p i k q
+  -- a bit's owner is the field whose place covers it, and no other; the entries up to the field's are looked at
+  pub owner-of-place : (s k q e p i n : ℕ) → (ownerCall count rw ro s k q ≡ ownedBy e p i n) ↔ (PlaceCovers count rw ro s e p i k q × (n ≡ suc e))
   owner-of-place = demand2 count rw ro ok .owner-is
 
   -- a field owns the place that it is given
-  pub place-is-owned : (s e p i k q : ℕ) → placeOf count rw ro s e p i ≡ placedAt k q → ownerCall count rw ro s k q ≡ ownedBy e p i
+  pub place-is-owned : (s e p i k q : ℕ) → placeOf count rw ro s e p i ≡ placedAt k q → ownerCall count rw ro s k q ≡ ownedBy e p i (suc e)
   place-is-owned = demand2 count rw ro ok .place-owned

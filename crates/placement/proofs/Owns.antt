@@ -11,7 +11,7 @@ use Rattle.rules.specs.declared.Refusal.the-variants.{Plain as plain}
 use Rattle.rules.specs.declared.Owned.the-variants.{Field as ownedBy, Gap as noOwner, Refused as notOwned}
 use Rattle.rules.specs.Load.{Map, mapOf}
 use Rattle.rules.specs.Place.{entry, partsOf, widthOf, isSet, isStaged, heldBy, lengthOf, ownerOf}
-use Rattle.rules.specs.Beside.{ownedAs, isBit, ownerCall}
+use Rattle.rules.specs.Beside.{lookedAt, ownedAs, isBit, ownerCall}
 use Rattle.rules.specs.Demands.{Accepted}
 use Rattle.rules.proofs.Basics.Tests.{and₃, is-false, from-true, and-no}
 use Rattle.rules.proofs.Place.AcceptedMap.{GoodMap}
@@ -57,7 +57,7 @@ module _ (count : ℕ) (first last : List ℕ) {k : ℕ} {inRO : Bool} {n o part
         (rw (c .side) (is-false (isStaged s && inRO) (tests .1)))
 
     -- the field, or the surplus past the parts
-    in-entry : fieldIn n (partsOf (entry m n)) (widthOf (entry m n)) (k - entry m n .offset) q ≡ ownedAs (ownerOf m s k q)
+    in-entry : fieldIn n (partsOf (entry m n)) (widthOf (entry m n)) (lookedAt m k) (k - entry m n .offset) q ≡ ownedAs (lookedAt m k) (ownerOf m s k q)
     unfolding fieldIn
     in-entry = go (ltb (k - entry m n .offset) (partsOf (entry m n) * widthOf (entry m n))) refl
       where
@@ -69,15 +69,15 @@ module _ (count : ℕ) (first last : List ℕ) {k : ℕ} {inRO : Bool} {n o part
 
         go : (b : Bool) → ltb (k - entry m n .offset) (partsOf (entry m n) * widthOf (entry m n)) ≡ b
             → cond b
-            (ownedBy n ((k - entry m n .offset) / widthOf (entry m n)) (((k - entry m n .offset) % widthOf (entry m n) * 8 + q) / widthOf (entry m n) + 1))
-            noOwner
-            ≡ ownedAs (ownerOf m s k q)
+            (ownedBy n ((k - entry m n .offset) / widthOf (entry m n)) (((k - entry m n .offset) % widthOf (entry m n) * 8 + q) / widthOf (entry m n) + 1) (lookedAt m k))
+            (noOwner (lookedAt m k))
+            ≡ ownedAs (lookedAt m k) (ownerOf m s k q)
         go true x =
             let l : k - entry m n .offset < partsOf (entry m n) * widthOf (entry m n) = ltb-true _ _ x in
-            rw add-one (sym (ap ownedAs (owner-field m g s k q (named-has-bytes s set) bit (record { ent = held; low = c .low; top = omega arith }))))
+            rw add-one (sym (ap (ownedAs (lookedAt m k)) (owner-field m g s k q (named-has-bytes s set) bit (record { ent = held; low = c .low; top = omega arith }))))
         go false x =
             let l : partsOf (entry m n) * widthOf (entry m n) ≤ k - entry m n .offset = ltb-false _ _ x in
-            sym (ap ownedAs (owner-surplus m g s k q (named-has-bytes s set) bit n held (omega (arith, c .low)) (c .top)))
+            sym (ap (ownedAs (lookedAt m k)) (owner-surplus m g s k q (named-has-bytes s set) bit n held (omega (arith, c .low)) (c .top)))
 
     -- what the code subtracts, and what it multiplies by 8
     pub owns-small : (parts < 16) × (width < 16) × (o ≤ k) × (k - o ≤ 256) × (q < 8)
@@ -85,7 +85,7 @@ module _ (count : ℕ) (first last : List ℕ) {k : ℕ} {inRO : Bool} {n o part
         let z : entry m n .offset ≡ o = c .offset-is in
         (rw (← c .parts-is) (parts-few (entry m n)), rw (← c .width-is) (width-narrow (entry m n)), omega (arith, c .low), omega (arith, c .top, entry-fits count first last (c .ok) n (c .there)), ltb→lt q 8 (tests .2))
 
-    pub owns-field : fieldIn n parts width (k - o) q ≡ ownerCall count first last s k q
-    owns-field =
-        rw (← c .parts-is, ← c .width-is, ← c .offset-is) in-entry
+    pub owns-field : {z : ℕ} → lookedAt (mapOf count first last) k ≡ z → fieldIn n parts width z (k - o) q ≡ ownerCall count first last s k q
+    owns-field counts =
+        rw (← c .parts-is, ← c .width-is, ← c .offset-is, ← counts) in-entry
         ∙ owner-is count first last s k q (c .ok) (bit-is ∙ h)

@@ -43,23 +43,32 @@ pub fn place(
     }
 }
 
-// The field that has a bit of an entry's space, counted from its offset: a part's bits in a row, W to a lane.
-fn field_in(number: usize, parts: usize, width: usize, byte: usize, bit: usize) -> Owned
+// The field that has a bit of an entry's space, counted from its offset: a part's bits in a row, W to a lane. With the number of entries
+// looked at.
+fn field_in(
+    number: usize,
+    parts: usize,
+    width: usize,
+    looked: usize,
+    byte: usize,
+    bit: usize,
+) -> Owned
     requires { ⌜ (parts < 16) × (width < 16) × (byte ≤ 256) × (bit < 8) ⌝ }
-    ensures { λ r. ⌜ r ≡ fieldIn number parts width byte bit ⌝ }
+    ensures { λ r. ⌜ r ≡ fieldIn number parts width looked byte bit ⌝ }
 {
     if !(byte < parts * width) {
-        return Owned::Gap;
+        return Owned::Gap { looked };
     }
     let bits = byte % width * 8 + bit;
     Owned::Field {
         entry: number,
         part: byte / width,
         lane: bits / width + 1,
+        looked,
     }
 }
 
-// Owner: the field that a bit of a set belongs to, or gap.
+// Owner: the field that a bit of a set belongs to, or gap, and the number of entries looked at.
 pub fn owner(count: usize, rw: &[u8], ro: &[u8], set: usize, offset: usize, bit: usize) -> Owned
     ensures { λ r. ⌜ r ≡ ownerCall count (now (rw .entry)) (now (ro .entry)) set offset bit ⌝ }
 {
@@ -72,12 +81,13 @@ pub fn owner(count: usize, rw: &[u8], ro: &[u8], set: usize, offset: usize, bit:
             offset: start,
             parts,
             width,
+            looked,
             ro: in_ro,
         } => {
             if !((set < 3) & (!((set < 2) & in_ro) & (bit < 8))) {
                 return Owned::Refused(Refusal::Plain(10));
             }
-            field_in(number, parts, width, offset - start, bit)
+            field_in(number, parts, width, looked, offset - start, bit)
         }
     }
 }

@@ -6,5 +6,6 @@ pub mod CoveredBytes
 pub mod LanesOfByte
 pub mod Owners
 pub mod OwnerAt
+pub mod CoverIndex
 pub mod PlaceOwner
 pub mod PlaceCalls

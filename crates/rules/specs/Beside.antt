@@ -2,9 +2,9 @@
 -- is read of the strings.
 use mathlib.Core.Bool.{Bool, _&&_, not, cond}
 use mathlib.Core.List.{List, [], _∷_}
-use Prim.Native.Nat.{ℕ}
+use Prim.Native.Nat.{ℕ, suc, _+_}
 use lib.ListN.{length, take, drop}
-use lib.Dec.{ltb, eqb}
+use lib.Dec.{ltb, leb, eqb}
 use Rattle.rules.specs.Words.{plain, Entry, read, Answer, saysYes, number, refused, Placed, placedAt, notPlaced, Owned, ownedBy, noOwner, notOwned}
 use Rattle.rules.specs.Load.{Map, Reading, readOf}
 use Rattle.rules.specs.Place.{entry, isSet, isRW, isLane, lengthOf, fieldByte, fieldBit, Owner, field, gap, ownerOf}
@@ -24,10 +24,24 @@ placeOn r s e p i =
 unfoldable pub placeOf : ℕ → List ℕ → List ℕ → ℕ → ℕ → ℕ → ℕ → Placed
 placeOf count rw ro s e p i = placeOn (readOf count rw ro) s e p i
 
--- "owner (set, offset, bit 0 to 7) answers entry, part and lane, or gap"; 10: a set, offset or bit that doesn't exist
-abbrev pub ownedAs : Owner → Owned
-ownedAs (field e p i) = ownedBy e p i
-ownedAs gap = noOwner
+-- an entry's space, offset to offset + MemoryLength; 02, note 12: "An entry with MemoryLength 0 covers no byte"
+abbrev pub spans : Entry → ℕ → Bool
+spans e k = leb (e .offset) k && ltb k (e .offset + e .memory)
+
+-- "it shall look through the entries in order and stop at the one whose space covers the byte": its index; the list's length where none does
+unfoldable pub coverIndex : List Entry → ℕ → ℕ
+coverIndex [] k = 0
+coverIndex (e ∷ l) k = cond (spans e k) 0 (suc (coverIndex l k))
+
+-- "the number of entries looked at, equal to that entry's number plus one"
+abbrev pub lookedAt : Map → ℕ → ℕ
+lookedAt m k = suc (coverIndex (m .entries) k)
+
+-- "owner (set, offset, bit 0 to 7) answers entry, part and lane, or gap"; 02, note 12: it "also carries the number of entries looked at".
+-- 10: a set, offset or bit that doesn't exist
+abbrev pub ownedAs : ℕ → Owner → Owned
+ownedAs n (field e p i) = ownedBy e p i n
+ownedAs n gap = noOwner n
 
 abbrev pub owned : Verdict → Owned → Owned
 owned passes x = x
@@ -37,7 +51,7 @@ abbrev pub isBit : Map → ℕ → ℕ → ℕ → Bool
 isBit m s k q = isSet s && (ltb k (lengthOf m s) && ltb q 8)
 
 abbrev pub ownerOn : Reading → ℕ → ℕ → ℕ → Owned
-ownerOn r s k q = owned (orderOf r (refuseIf (not (isBit (r .map) s k q)) (plain 10) ∷ [])) (ownedAs (ownerOf (r .map) s k q))
+ownerOn r s k q = owned (orderOf r (refuseIf (not (isBit (r .map) s k q)) (plain 10) ∷ [])) (ownedAs (lookedAt (r .map) k) (ownerOf (r .map) s k q))
 
 unfoldable pub ownerCall : ℕ → List ℕ → List ℕ → ℕ → ℕ → ℕ → Owned
 ownerCall count rw ro s k q = ownerOn (readOf count rw ro) s k q

@@ -91,6 +91,18 @@ pub record PlaceCovers (count : ℕ) (rw ro : List ℕ) (s e p i k q : ℕ) : Ty
   pub low : bit ≤ q
   pub top : q < bit + widthOf (entry (mapOf count rw ro) e)
 
+-- the space of entry e covers byte k
+pub record Spans (m : Map) (e k : ℕ) : Type 0 where
+  pub there : e < length (m .entries)
+  pub low : entry m e .offset ≤ k
+  pub top : k < entry m e .offset + entry m e .memory
+
+-- 02, note 12: "the number of entries looked at, equal to that entry's number plus one"
+pub record LooksAt (m : Map) (k n : ℕ) : Type 0 where
+  pub last : ℕ
+  pub covers : Spans m last k
+  pub counts : n ≡ suc last
+
 -- the sum of the Lengths
 abbrev pub lengths : List Entry → ℕ
 lengths [] = 0
@@ -110,16 +122,20 @@ pub record OwnBytes (count : ℕ) (rw ro : List ℕ) (e : ℕ) : Type 0 where
       → byteAt (entryBytes count rw ro e) k ≡ byteAt (cond (isRW (mapOf count rw ro) e) rw ro) (entry (mapOf count rw ro) e .start + k)
 
 pub record OwnerAndPlace (count : ℕ) (rw ro : List ℕ) : Type 0 where
-  -- a bit belongs to an entry, part and lane exactly when the placing of that lane's field covers the bit
-  pub owner-is : (s k q e p i : ℕ) → (ownerCall count rw ro s k q ≡ ownedBy e p i) ↔ PlaceCovers count rw ro s e p i k q
-  -- a bit of a set is a gap exactly when no field's placing covers it
-  pub owner-gap : (s k q : ℕ)
+  -- a bit belongs to an entry, part and lane exactly when the placing of that lane's field covers the bit; the entries up to that one are looked at
+  pub owner-is : (s k q e p i n : ℕ) → (ownerCall count rw ro s k q ≡ ownedBy e p i n) ↔ (PlaceCovers count rw ro s e p i k q × (n ≡ suc e))
+  -- a bit of a set is a gap exactly when no field's placing covers it; the entries up to the one whose space covers its byte are looked at
+  pub owner-gap : (s k q n : ℕ)
       → s < 3
       → k < lengthOf (mapOf count rw ro) s
       → q < 8
-      → (ownerCall count rw ro s k q ≡ noOwner) ↔ ((e p i : ℕ) → ¬ (PlaceCovers count rw ro s e p i k q))
+      → (ownerCall count rw ro s k q ≡ noOwner n) ↔ (((e p i : ℕ) → ¬ (PlaceCovers count rw ro s e p i k q)) × LooksAt (mapOf count rw ro) k n)
   -- a field that is placed owns its place
-  pub place-owned : (s e p i k q : ℕ) → placeOf count rw ro s e p i ≡ placedAt k q → ownerCall count rw ro s k q ≡ ownedBy e p i
+  pub place-owned : (s e p i k q : ℕ) → placeOf count rw ro s e p i ≡ placedAt k q → ownerCall count rw ro s k q ≡ ownedBy e p i (suc e)
+  -- every byte of a set is covered by the space of one entry alone; 02, note 12: "An entry with MemoryLength 0 covers no byte"
+  pub one-space : (s k : ℕ) → k < lengthOf (mapOf count rw ro) s → (e : ℕ) × Spans (mapOf count rw ro) e k
+  pub no-other : (e e′ k : ℕ) → Spans (mapOf count rw ro) e k → Spans (mapOf count rw ro) e′ k → e ≡ e′
+  pub no-space : (e k : ℕ) → entry (mapOf count rw ro) e .memory ≡ 0 → ¬ (Spans (mapOf count rw ro) e k)
   -- every field that a set holds is placed, within its entry and within one byte
   pub placed : (s e p i : ℕ)
       → T (holds (mapOf count rw ro) s e p i)

@@ -154,14 +154,17 @@ pub enum Placed {
     Refused(Refusal),
 }
 
-// Whose a bit is.
+// Whose a bit is, and the number of entries looked at.
 pub enum Owned {
     Field {
         entry: usize,
         part: usize,
         lane: usize,
+        looked: usize,
     },
-    Gap,
+    Gap {
+        looked: usize,
+    },
     Refused(Refusal),
 }
 

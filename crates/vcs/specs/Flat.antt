@@ -74,9 +74,9 @@ flatPlaced (placedAt k q) = record { refusal = 0; at = 0; offset = k; bit = q }
 flatPlaced (notPlaced r) = record { refusal = reasonOf r .number; at = reasonOf r .at; offset = 0; bit = 0 }
 
 abbrev pub flatOwned : Owned → FlatOwned
-flatOwned (ownedBy e p i) = record { refusal = 0; at = 0; gap = 0; entry = e; part = p; lane = i }
-flatOwned noOwner = record { refusal = 0; at = 0; gap = 1; entry = 0; part = 0; lane = 0 }
-flatOwned (notOwned r) = record { refusal = reasonOf r .number; at = reasonOf r .at; gap = 0; entry = 0; part = 0; lane = 0 }
+flatOwned (ownedBy e p i n) = record { refusal = 0; at = 0; gap = 0; entry = e; part = p; lane = i; looked = n }
+flatOwned (noOwner n) = record { refusal = 0; at = 0; gap = 1; entry = 0; part = 0; lane = 0; looked = n }
+flatOwned (notOwned r) = record { refusal = reasonOf r .number; at = reasonOf r .at; gap = 0; entry = 0; part = 0; lane = 0; looked = 0 }
 
 abbrev pub flatAnswer : Answer → FlatAnswer
 flatAnswer yes = record { refusal = 0; at = 0; number = pos 0 }

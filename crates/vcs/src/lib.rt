@@ -102,6 +102,7 @@ pub struct FlatOwned {
     pub entry: usize,
     pub part: usize,
     pub lane: usize,
+    pub looked: usize,
 }
 
 // vcs_answer
@@ -424,7 +425,7 @@ pub extern "C" fn vcs_place(
     }
 }
 
-// Owner: the field that a bit of a set belongs to, or gap (1).
+// Owner: the field that a bit of a set belongs to, or gap (1), and the number of entries looked at.
 #[no_mangle]
 pub extern "C" fn vcs_owner(
     count: usize,
@@ -438,21 +439,28 @@ pub extern "C" fn vcs_owner(
 {
     let owned = owner(count, rw, ro, set, offset, bit);
     match owned {
-        Owned::Field { entry, part, lane } => FlatOwned {
+        Owned::Field {
+            entry,
+            part,
+            lane,
+            looked,
+        } => FlatOwned {
             refusal: 0,
             at: 0,
             gap: 0,
             entry,
             part,
             lane,
+            looked,
         },
-        Owned::Gap => FlatOwned {
+        Owned::Gap { looked } => FlatOwned {
             refusal: 0,
             at: 0,
             gap: 1,
             entry: 0,
             part: 0,
             lane: 0,
+            looked,
         },
         Owned::Refused(r) => {
             let why = reason_of(r);
@@ -463,6 +471,7 @@ pub extern "C" fn vcs_owner(
                 entry: 0,
                 part: 0,
                 lane: 0,
+                looked: 0,
             }
         }
     }

@@ -148,16 +148,17 @@ calls! {
     }
 
     fn owner(count: usize, rw: &[u8], ro: &[u8], set: usize, offset: usize, bit: usize) -> Owned {
-        let e = passed!(find_byte(count, rw, ro, NO_BANK, offset));
-        refuse_if!(set > 2 || set < 2 && e.in_ro || bit > 7, 10);
-        let at = offset - e.offset;
+        let map = passed!(walk(count, rw, ro, NO_BANK, &mut ()));
+        refuse_if!(set > 2 || set < 2 && offset >= map.staged || bit > 7, 10);
+        let e = passed!(map.covering(rw, ro, offset).ok_or((10, 0)));
+        let (at, looked_at) = (offset - e.offset, e.number + 1);
         if at >= e.row.needed.into() {
-            return Owned { gap: 1, ..Owned::default() };
+            return Owned { gap: 1, looked_at, ..Owned::default() };
         }
         let part = at >> e.row.shift;
         let byte = at - (part << e.row.shift);
         let lane = ((8 * byte + bit) >> e.row.shift) + 1;
-        Owned { refusal: 0, at: 0, gap: 0, entry: e.number, part, lane }
+        Owned { refusal: 0, at: 0, gap: 0, entry: e.number, part, lane, looked_at }
     }
 
     fn fresh(count: usize, rw: &[u8], ro: &[u8], bank: &mut [u8]) -> Loaded {

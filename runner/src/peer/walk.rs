@@ -81,6 +81,26 @@ pub struct Map {
     pub active: usize,
 }
 
+impl Map {
+    /// Owner's search after the walk: the entries of the byte's string in order, up to the one whose space has the byte.
+    #[inline(always)]
+    pub fn covering<'a>(&self, rw: &'a [u8], ro: &'a [u8], byte: usize) -> Option<Entry<'a>> {
+        let (a, in_ro) = (self.a, byte >= self.staged);
+        let (string, mut number, mut offset) = if in_ro { (ro, self.rw_count, self.staged) } else { (rw, 0, 0) };
+        let mut start = 0;
+        loop {
+            let rest = string.get(start..)?;
+            let (&id, &length, &memory) = (rest.first()?, rest.get(1)?, rest.get(2 + a)?);
+            let end = offset + usize::from(memory);
+            if byte < end {
+                let (bytes, row) = (rest.get(..length.into())?, &ROWS[usize::from(id)]);
+                return Some(Entry { number, in_ro, a, start, bytes, row, offset });
+            }
+            (number, start, offset) = (number + 1, start + usize::from(length), end);
+        }
+    }
+}
+
 /// Where the walk stands: the number of the next entry, over both strings, and how many stand before its string.
 #[derive(Default)]
 pub struct Walk {

@@ -1,7 +1,8 @@
-//! What the generated maps reached in the load and where it was taken up again, counted so that a generator that misses its aim
-//! fails the run.
+//! What the generated maps reached in the load, where it was taken up again and where owner found a byte, counted so that a
+//! generator that misses its aim fails the run.
 
 mod breaks;
+mod found;
 mod kinds;
 mod limits;
 mod look;
@@ -10,10 +11,11 @@ mod states;
 
 use crate::calls::resume::{Origin, Rest};
 use crate::case::Case;
-use crate::engine::{Loaded, Passed};
+use crate::engine::{Loaded, Owned, Passed};
 use crate::refusals::FLOOR;
 use crate::tally::Tally;
 use breaks::{Break, BREAKS};
+use found::{Found, FOUND};
 use limits::LIMITS;
 pub use look::Look;
 use states::{TakenUp, STATES};
@@ -25,6 +27,8 @@ pub struct Reached {
     broken_off: Tally,
     breaks: Limits,
     states: Limits,
+    /// Of fields and of gaps.
+    found: [Limits; 2],
 }
 
 impl Reached {
@@ -36,6 +40,7 @@ impl Reached {
             broken_off: breaks::tally(),
             breaks: Limits::new(BREAKS.iter().map(|(name, _)| *name)),
             states: Limits::new(STATES.iter().map(|(name, _)| *name)),
+            found: ["field", "gap"].map(|kind| Limits::new(FOUND.iter().map(|(name, _)| format!("{kind} {name}")))),
         }
     }
 
@@ -62,6 +67,14 @@ impl Reached {
         self.states.count(STATES.iter().map(|(_, test)| test(&at)));
     }
 
+    /// Counts an accepted answer of owner on a map with more than two entries: with fewer, the sweep alone would do.
+    pub fn owned(&mut self, look: &Look, offset: usize, owned: &Owned) {
+        if look.passed().len() > 2 {
+            let found = Found::new(look, offset, owned.looked_at);
+            self.found[owned.gap].count(FOUND.iter().map(|(_, test)| test(&found)));
+        }
+    }
+
     pub fn print(&self) {
         self.kinds.print();
         self.pairs.print();
@@ -69,21 +82,23 @@ impl Reached {
         self.broken_off.print();
         self.breaks.print();
         self.states.print();
+        self.found.iter().for_each(Limits::print);
     }
 
     pub fn faults(&self) -> Vec<String> {
         let tallies = [&self.kinds, &self.pairs, &self.broken_off].map(Tally::faults);
-        let limits = [&self.limits, &self.breaks, &self.states].map(Limits::faults);
+        let [fields, gaps] = &self.found;
+        let limits = [&self.limits, &self.breaks, &self.states, fields, gaps].map(Limits::faults);
         tallies.into_iter().chain(limits).flatten().collect()
     }
 }
 
 /// Limits by name, and how often each was met.
-struct Limits(Vec<(&'static str, u64)>);
+struct Limits(Vec<(String, u64)>);
 
 impl Limits {
-    fn new(names: impl Iterator<Item = &'static str>) -> Limits {
-        Limits(names.map(|name| (name, 0)).collect())
+    fn new(names: impl Iterator<Item = impl Into<String>>) -> Limits {
+        Limits(names.map(|name| (name.into(), 0)).collect())
     }
 
     /// Says of each limit, in order, whether it was met.

@@ -34,6 +34,16 @@ pub fn refused(refusal: Refusal) -> Answer {
     Answer::Refused(refusal)
 }
 
+/// Owner's answer for a bit of a field (entry, part, lane).
+pub fn owned(field: (usize, usize, usize), looked_at: usize) -> Owned {
+    Owned { field: Some(field), looked_at }
+}
+
+/// Owner's answer for a gap.
+pub fn gap(looked_at: usize) -> Owned {
+    Owned { field: None, looked_at }
+}
+
 /// A module under test: the same calls to the packed bank and to the table,
 /// which must answer alike and show the same bank after each call.
 pub struct Pair {

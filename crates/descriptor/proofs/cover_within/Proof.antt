@@ -2,6 +2,7 @@
 use mathlib.Core.Path.{_≡_, refl, sym, _∙_}
 use mathlib.Core.Bool.{true, false}
 use Prim.Native.Nat.{_+_, _*_, _≤_}
+use native.Mathlib.Nat.{zero-add}
 use native.Mathlib.Omega.{arith}
 use denote.Ref.{now}
 use Rattle.rules.specs.declared.Loaded.the-variants.{Accepted as accepted}
@@ -11,7 +12,7 @@ use Rattle.rules.specs.Place.{partsOf, widthOf}
 use Rattle.descriptor.specs.declared.Covered.the-variants.{By as by}
 use Rattle.descriptor.specs.Find.{namedOf}
 use Rattle.descriptor.specs.Cover.{coverOf, Hits}
-use Rattle.descriptor.proofs.Covers.{cover-rejected, covers-seeks, covers-found, covers-past, covers-none}
+use Rattle.descriptor.proofs.Covers.{cover-rejected, covers-few, covers-seeks, covers-found, covers-past, covers-none}
 use borrow.Author.Needs.{needs}
 use Rattle.descriptor.proofs.cover_within.Statement.{statement}
 use Rattle.descriptor.proofs.cover_within.Tie as tie
@@ -27,15 +28,18 @@ loads c = sym (c .before .before .before .load .ensures) ∙ c .before .loaded2 
 first : (c : tie.After-look) →
     let k = c .before .before in
     let g = k .before .before .before .before .before .before .args in
-    Hits (maskBytes (g .count)) (now (g .rw)) 0 (k .before .loaded2 .given .0 .0) (g .offset) (c .look .result)
+    Hits (maskBytes (g .count)) (now (g .rw)) 0 (k .before .loaded2 .given .0 .0) (g .offset) 0 (c .look .result)
 first c = rw (← c .before .mask-bytes .ensures .0) (c .look .ensures)
 
 last : (c : tie.After-look2) →
     let k = c .before .before .before .before .before in
     let g = k .before .before .before .before .before .before .args in
     let x = k .before .loaded2 .given .0 in
-    Hits (maskBytes (g .count)) (now (g .ro)) (x .1 .1 .0) (x .1 .0) (g .offset) (c .look2 .result)
-last c = rw (← c .before .before .before .before .mask-bytes .ensures .0) (c .look2 .ensures)
+    Hits (maskBytes (g .count)) (now (g .ro)) (x .1 .1 .0) (x .1 .0) (g .offset) (x .0) (c .look2 .result)
+last c =
+    let l = c .before .before .before in
+    let all = first l .to-end (c .before .if1 .left) ∙ zero-add _ in
+    rw (← l .before .mask-bytes .ensures .0, ← all) (c .look2 .ensures)
 
 -- the entry that covers the byte
 in-first : (c : tie.Then1) →
@@ -43,7 +47,7 @@ in-first : (c : tie.Then1) →
     let g = k .before .before .before .before .before .before .args in
     let h = c .before .before .look .result in
     let e = entryAt (maskBytes (g .count)) (now (g .rw)) (h .at) (h .sum) in
-    (h .at ≤ 120) × (by (h .number) (h .sum) (partsOf e) (widthOf e) false ≡ coverOf (g .count) (now (g .rw)) (now (g .ro)) (g .offset)) × (h .number ≤ 2 * entryLimit)
+    (h .at ≤ 120) × (by (h .number) (h .sum) (partsOf e) (widthOf e) (h .looked) false ≡ coverOf (g .count) (now (g .rw)) (now (g .ro)) (g .offset)) × (h .number ≤ 2 * entryLimit)
 in-first c =
     let k = c .before .before .before .before in
     let g = k .before .before .before .before .before .before .args in
@@ -55,7 +59,7 @@ in-last : (c : tie.Then2) →
     let h = c .before .before .look2 .result in
     let e = entryAt (maskBytes (g .count)) (now (g .ro)) (h .at) (h .sum) in
     let n = k .before .loaded2 .given .0 .0 + h .number in
-    (h .at ≤ 120) × (by n (h .sum) (partsOf e) (widthOf e) true ≡ coverOf (g .count) (now (g .rw)) (now (g .ro)) (g .offset)) × (n ≤ 2 * entryLimit)
+    (h .at ≤ 120) × (by n (h .sum) (partsOf e) (widthOf e) (h .looked) true ≡ coverOf (g .count) (now (g .rw)) (now (g .ro)) (g .offset)) × (n ≤ 2 * entryLimit)
 in-last c =
     let k = c .before .before .before .before .before .before .before in
     let g = k .before .before .before .before .before .before .args in
@@ -76,8 +80,11 @@ mask-bytes-requires c κs = search needs
 look-requires : tie.Need-look-requires
 look-requires c κs =
     let k = c .before in
-    let g = k .before .before .before .before .before .before .args in
-    (rw (c .mask-bytes .ensures .0) (covers-seeks (g .count) (now (g .rw)) (now (g .ro)) (g .offset) _ _ _ _ (loads k) false), omega arith)
+    let g = k .before .before .before .before .before .before .args in (
+      rw (c .mask-bytes .ensures .0) (covers-seeks (g .count) (now (g .rw)) (now (g .ro)) (g .offset) _ _ _ _ (loads k) false),
+      omega arith,
+      omega (arith, covers-few (g .count) (now (g .rw)) (now (g .ro)) (g .offset) _ _ _ _ (loads k)),
+    )
 
 named-at-requires : tie.Need-named-at-requires
 named-at-requires c κs =
@@ -96,6 +103,7 @@ look-requires-2 c κs =
     let g = k .before .before .before .before .before .before .args in (
       rw (m .mask-bytes .ensures .0) (covers-seeks (g .count) (now (g .rw)) (now (g .ro)) (g .offset) _ _ _ _ (loads k) true),
       covers-past (g .count) (now (g .rw)) (now (g .ro)) (g .offset) _ _ _ _ (loads k) false (first l) (c .if1 .left),
+      omega (arith, first l .to-end (c .if1 .left), covers-few (g .count) (now (g .rw)) (now (g .ro)) (g .offset) _ _ _ _ (loads k)),
     )
 
 named-at-requires-2 : tie.Need-named-at-requires-2

@@ -33,18 +33,18 @@ mul-bits c = omega (arith, short c)
 add-bits : tie.Need-add-bits
 add-bits c = omega (arith, short c)
 
-div-t7 : tie.Need-div-t7
-div-t7 c = some c
+div-t8 : tie.Need-div-t8
+div-t8 c = some c
 
-div-t10 : tie.Need-div-t10
-div-t10 c = some c
+div-t11 : tie.Need-div-t11
+div-t11 c = some c
 
-add-t11 : tie.Need-add-t11
-add-t11 c = let g = c .before .args in omega (arith, short c, div-le-self (g .byte % g .width * 8 + g .bit) (g .width))
+add-t12 : tie.Need-add-t12
+add-t12 c = let g = c .before .args in omega (arith, short c, div-le-self (g .byte % g .width * 8 + g .bit) (g .width))
 
 returns-2 : tie.Need-returns-2
 unfolding fieldIn
 returns-2 c = let g = c .before .args in rw (not-false (ltb (g .byte) (g .parts * g .width)) (c .if1 .left)) refl
 
 pub field-in-spec : {M : Type 1} → statement M
-field-in-spec = tie.close (tie.spec mul-if1 returns rem-bits mul-bits add-bits div-t7 div-t10 add-t11 returns-2)
+field-in-spec = tie.close (tie.spec mul-if1 returns rem-bits mul-bits add-bits div-t8 div-t11 add-t12 returns-2)

@@ -1,8 +1,10 @@
 -- `owner` meets its contract.
-use mathlib.Core.Path.{sym, _∙_}
+use mathlib.Core.Path.{_≡_, sym, _∙_}
 use Prim.Native.Nat.{_-_, _≤_, _<_}
 use denote.Ref.{now}
 use borrow.Author.Tests.{not-true, not-false}
+use Rattle.rules.specs.Load.{mapOf}
+use Rattle.rules.specs.Beside.{lookedAt}
 use Rattle.rules.proofs.Place.PlaceCalls.{owner-refused}
 use Rattle.descriptor.proofs.Covers.{Covering, cover-refused, cover-none, cover-one}
 use Rattle.placement.proofs.Owns.{owns-none, owns-10, owns-small, owns-field}
@@ -14,11 +16,12 @@ use Rattle.placement.proofs.owner.Tie as tie
 covering : (c : tie.After-known-told2) →
     let g = c .before .before .before .before .before .before .args in
     let x = c .before .covered2 .given .0 in
-    Covering (g .count) (now (g .rw)) (now (g .ro)) (g .offset) (x .1 .1 .1 .1 .0) (x .0) (x .1 .0) (x .1 .1 .0) (x .1 .1 .1 .0)
+    Covering (g .count) (now (g .rw)) (now (g .ro)) (g .offset) (x .1 .1 .1 .1 .1 .0) (x .0) (x .1 .0) (x .1 .1 .0) (x .1 .1 .1 .0)
+    × (lookedAt (mapOf (g .count) (now (g .rw)) (now (g .ro))) (g .offset) ≡ x .1 .1 .1 .1 .0)
 covering c =
     let k = c .before .before .before in
     let g = k .before .before .before .args in
-    cover-one (g .count) (now (g .rw)) (now (g .ro)) (g .offset) _ _ _ _ _ (sym (k .cover .ensures) ∙ c .before .covered2 .given .1)
+    cover-one (g .count) (now (g .rw)) (now (g .ro)) (g .offset) _ _ _ _ _ _ (sym (k .cover .ensures) ∙ c .before .covered2 .given .1)
 
 -- its bytes and bits are small
 small : (c : tie.Else1) →
@@ -28,7 +31,7 @@ small : (c : tie.Else1) →
     (x .1 .1 .0 < 16) × (x .1 .1 .1 .0 < 16) × (o ≤ g .offset) × (g .offset - o ≤ 256) × (g .bit < 8)
 small c =
     let g = c .before .before .before .before .before .before .before .args in
-    owns-small (g .count) (now (g .rw)) (now (g .ro)) (covering (c .before)) (g .set) (g .bit) (not-false _ (c .if1 .left))
+    owns-small (g .count) (now (g .rw)) (now (g .ro)) (covering (c .before) .0) (g .set) (g .bit) (not-false _ (c .if1 .left))
 
 cover-requires : tie.Need-cover-requires
 cover-requires c κs = search needs
@@ -45,7 +48,7 @@ enum-known-covered-2 c = search needs
 returns : tie.Need-returns
 returns c =
     let g = c .before .before .before .before .before .before .before .args in
-    owns-10 (g .count) (now (g .rw)) (now (g .ro)) (covering (c .before)) (g .set) (g .bit) (not-true _ (c .if1 .taken))
+    owns-10 (g .count) (now (g .rw)) (now (g .ro)) (covering (c .before) .0) (g .set) (g .bit) (not-true _ (c .if1 .taken))
 
 sub-field-in : tie.Need-sub-field-in
 sub-field-in c = small c .2
@@ -72,7 +75,7 @@ returns-4 c =
     let k = c .before in
     let g = k .before .before .before .before .before .before .before .args in
     c .field-in .ensures
-    ∙ owns-field (g .count) (now (g .rw)) (now (g .ro)) (covering (k .before)) (g .set) (g .bit) (not-false _ (k .if1 .left))
+    ∙ owns-field (g .count) (now (g .rw)) (now (g .ro)) (covering (k .before) .0) (g .set) (g .bit) (not-false _ (k .if1 .left)) (covering (k .before) .1)
 
 pub owner-spec : {M : Type 1} → statement M
 owner-spec =

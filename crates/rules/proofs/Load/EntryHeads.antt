@@ -65,14 +65,6 @@ lengths-append : (l r : List Entry) → lengths (l ++ r) ≡ lengths l + lengths
 lengths-append [] r = omega arith
 lengths-append (e ∷ l) r = omega (arith, lengths-append l r)
 
--- no set is longer than the sum of all
-pub length-most : (count : ℕ) (rw ro : List ℕ) (s : ℕ) → lengthOf (mapOf count rw ro) s ≤ total (mapOf count rw ro .entries)
-unfolding mapWithin lengthOf bothWithin
-length-most count first last s =
-    by-test (λ n. n ≤ total (rwEntries count first ++ roEntries count first last)) (isStaged s) _ _
-    (λ _. omega (arith, total-append (rwEntries count first) (roEntries count first last)))
-    (λ _. omega arith)
-
 module _ (count : ℕ) (first last : List ℕ) (ok : Accepted count first last) where
   abbrev r : List Entry
   r = rwEntries count first

@@ -11,7 +11,7 @@ use Rattle.rules.specs.Words.{Refusal, plain, rejected, read, placedAt, 
 use Rattle.rules.specs.Load.{Map, loadOf, mapOf, readOf}
 use Rattle.rules.specs.Place.{entry, isSet, isStaged, isRW, hasField, heldBy, lengthOf, fieldByte, fieldBit, ownerOf}
 use Rattle.rules.specs.Refuse.{Verdict, passes, refuses, refuseIf, firstOf, check9, checkEntries, orderOf, exists, misdirected, unaccepted, judge}
-use Rattle.rules.specs.Beside.{placed, placeOf, ownedAs, isBit, ownerCall}
+use Rattle.rules.specs.Beside.{placed, placeOf, lookedAt, ownedAs, isBit, ownerCall}
 use Rattle.rules.specs.Demands.{Accepted}
 use Rattle.rules.proofs.Basics.Tests.{and-no}
 use Rattle.rules.proofs.Place.AcceptedMap.{GoodMap}
@@ -76,7 +76,7 @@ module _ (count : ℕ) (first last : List ℕ) where
       unfolding ownerCall
       owner-10 h = rw (order-accepted count first last ok (refuseIf (not (isBit m s k q)) (plain 10) ∷ []), h) refl
 
-      pub owner-is : isBit (mapOf count first last) s k q ≡ true → ownedAs (ownerOf (mapOf count first last) s k q) ≡ ownerCall count first last s k q
+      pub owner-is : isBit (mapOf count first last) s k q ≡ true → ownedAs (lookedAt (mapOf count first last) k) (ownerOf (mapOf count first last) s k q) ≡ ownerCall count first last s k q
       unfolding ownerCall
       owner-is h = rw (order-accepted count first last ok (refuseIf (not (isBit m s k q)) (plain 10) ∷ []), h) refl
 

@@ -13,8 +13,8 @@ use Rattle.rules.specs.Descriptor.{maskBytes}
 use Rattle.rules.specs.Load.{Map, rwEntries, roEntries, mapOf, total}
 use Rattle.rules.specs.Place.{nothing, entry, partsOf, widthOf, isSet, isStaged, isRW, heldBy, lengthOf, fieldByte, fieldBit, covers, ownerOf, Owner, field, gap, Field}
 use Rattle.rules.specs.Refuse.{Verdict, passes, refuses, refuseIf, firstOf, exists, misdirected, unaccepted, judge}
-use Rattle.rules.specs.Beside.{placed, placeOf, ownedAs, owned, isBit, ownerCall}
-use Rattle.rules.specs.Demands.{Accepted, PlaceCovers, OwnerAndPlace}
+use Rattle.rules.specs.Beside.{placed, placeOf, coverIndex, lookedAt, ownedAs, owned, isBit, ownerCall}
+use Rattle.rules.specs.Demands.{Accepted, PlaceCovers, Spans, OwnerAndPlace}
 use Rattle.rules.proofs.Bank.Places.{named-has-bytes, has-bytes-named}
 use Rattle.rules.proofs.Basics.Tests.{and₂, either, is-true, is-false, both-true}
 use Rattle.rules.proofs.Table.Columns.{accepts-says, shape-says, sign-says}
@@ -26,6 +26,7 @@ use Rattle.rules.proofs.Lists.Allowed.{read-field}
 use Rattle.rules.proofs.Load.Fills.{filled-extras, rw-filled, ro-filled, rw-fills, ro-fills}
 use Rattle.rules.proofs.Load.EntryBytes.{entry-own}
 use Rattle.rules.proofs.Refusals.Verdicts.{judge-passes, judged-passes, order-open}
+use Rattle.rules.proofs.Place.CoverIndex.{index-is, set-covered}
 use Rattle.rules.proofs.Place.Owners.{Covers, covers-says, covers-same, owner-covers, covers-owner, owner-none}
 
 -- a field that a set holds is one that may be read, and the other way round
@@ -54,9 +55,13 @@ module _ (m : Map) (g : GoodMap m) where
   reads-field : (s e p i : ℕ) → firstOf (judge m (read s e p i)) ≡ passes → Field m s e p i
   reads-field s e p i q = read-field m g (judge-passes m (read s e p i) q)
 
-owned-field : (o : Owner) {e p i : ℕ} → ownedAs o ≡ ownedBy e p i → o ≡ field e p i
-owned-field (field e p i) h = cc
-owned-field gap h = let o : _≡_ {A = ℕ} 0 1 = cc in absurd (omega arith)
+owned-field : (c : ℕ) (o : Owner) {e p i n : ℕ} → ownedAs c o ≡ ownedBy e p i n → o ≡ field e p i
+owned-field c (field e p i) h = cc
+owned-field c gap h = let o : _≡_ {A = ℕ} 0 1 = cc in absurd (omega arith)
+
+owned-gap : (c : ℕ) (o : Owner) {n : ℕ} → ownedAs c o ≡ noOwner n → c ≡ n
+owned-gap c (field e p i) h = let o : _≡_ {A = ℕ} 0 1 = cc in absurd (omega arith)
+owned-gap c gap h = cc
 
 offset-at : (n : ℕ) (l : List Entry) → Good n l → (k : ℕ) → k < length l → getD l k nothing .offset ≡ n + total (take k l)
 unfolding total
@@ -94,12 +99,12 @@ module _ (count : ℕ) (first last : List ℕ) (ok : Accepted count first last) 
       go (refuses r) x y = let o : _≡_ {A = ℕ} 0 1 = cc in absurd (omega arith)
 
   -- the owner call
-  owner-call : (s k q : ℕ) → ownerCall count first last s k q ≡ owned (firstOf (refuseIf (not (isBit m s k q)) (plain 10) ∷ [])) (ownedAs (ownerOf m s k q))
+  owner-call : (s k q : ℕ) → ownerCall count first last s k q ≡ owned (firstOf (refuseIf (not (isBit m s k q)) (plain 10) ∷ [])) (ownedAs (lookedAt m k) (ownerOf m s k q))
   unfolding ownerCall m
   owner-call s k q =
       rw (order-open count first last (check9-passes count first last ok) (checkEntries-passes count first last ok) (refuseIf (not (isBit (mapOf count first last) s k q)) (plain 10) ∷ []))
 
-  owner-in : (s k q : ℕ) → T (isBit m s k q) → ownerCall count first last s k q ≡ ownedAs (ownerOf m s k q)
+  owner-in : (s k q : ℕ) → T (isBit m s k q) → ownerCall count first last s k q ≡ ownedAs (lookedAt m k) (ownerOf m s k q)
   owner-in s k q h = rw (owner-call s k q, is-true (isBit m s k q) h) refl
 
   owner-out : (s k q : ℕ) → T (not (isBit m s k q)) → ownerCall count first last s k q ≡ notOwned (plain 10)
@@ -134,8 +139,18 @@ module _ (count : ℕ) (first last : List ℕ) (ok : Accepted count first last) 
   covers-true : {e p i k q : ℕ} → Covers m e p i k q → T (covers (entry m e) p i k q)
   covers-true {e} {p} {i} {k} {q} c = covers-bit (entry m e) p i k q (c .byte) (c .low) (c .top)
 
-  on-owner : (s e p i k q : ℕ) → On s e p i k q → ownerCall count first last s k q ≡ ownedBy e p i
-  on-owner s e p i k q o = owner-in s k q (o .there) ∙ ap ownedAs (covers-owner m g s k q (o .field .set) e p i (o .field) (covers-true (o .covers)))
+  on-spans : {s e p i k q : ℕ} → On s e p i k q → Spans m e k
+  on-spans {s} {e} o =
+      let y = o .covers .byte in
+      record { there = held-lt m g s e (o .field .ent); low = omega (arith, y); top = omega (arith, y, in-entry m g (o .field)) }
+
+  looks-at : {e k : ℕ} → Spans m e k → lookedAt m k ≡ suc e
+  looks-at c = ap suc (index-is m g c)
+
+  on-owner : (s e p i k q : ℕ) → On s e p i k q → ownerCall count first last s k q ≡ ownedBy e p i (suc e)
+  on-owner s e p i k q o =
+      owner-in s k q (o .there)
+      ∙ rw (looks-at (on-spans o), covers-owner m g s k q (o .field .set) e p i (o .field) (covers-true (o .covers))) refl
 
   covered-place : (s e p i k q : ℕ) → Field m s e p i → T (covers (entry m e) p i k q) → PlaceCovers count first last s e p i k q
   unfolding m
@@ -143,30 +158,46 @@ module _ (count : ℕ) (first last : List ℕ) (ok : Accepted count first last) 
       let x : Covers m e p i k q = covers-says c in
       record { bit = fieldBit (entry m e) i; at = place-field s e p i f ∙ ap (λ n. placedAt n (fieldBit (entry m e) i)) (x .byte); low = x .low; top = x .top }
 
-  owner-place : (s k q e p i : ℕ) → ownerCall count first last s k q ≡ ownedBy e p i → PlaceCovers count first last s e p i k q
-  owner-place s k q e p i h = go (either (isBit m s k q))
+  owner-place : (s k q e p i n : ℕ) → ownerCall count first last s k q ≡ ownedBy e p i n → PlaceCovers count first last s e p i k q
+  owner-place s k q e p i n h = go (either (isBit m s k q))
     where
       go : T (isBit m s k q) ⊎ T (not (isBit m s k q)) → PlaceCovers count first last s e p i k q
       go (inl t) =
           let hs : s < 3 = ltb→lt _ _ (and₂ (isSet s) (ltb k (lengthOf m s) && ltb q 8) t .0) in
-          let (f, c) = owner-covers m g s k q (named-has-bytes s hs) e p i (owned-field (ownerOf m s k q) (sym (owner-in s k q t) ∙ h)) in
+          let (f, c) = owner-covers m g s k q (named-has-bytes s hs) e p i (owned-field (lookedAt m k) (ownerOf m s k q) (sym (owner-in s k q t) ∙ h)) in
           covered-place s e p i k q f c
-      go (inr t) = let z : notOwned (plain 10) ≡ ownedBy e p i = sym (owner-out s k q t) ∙ h in let o : _≡_ {A = ℕ} 0 1 = cc in absurd (omega arith)
+      go (inr t) = let z : notOwned (plain 10) ≡ ownedBy e p i n = sym (owner-out s k q t) ∙ h in let o : _≡_ {A = ℕ} 0 1 = cc in absurd (omega arith)
 
   pub both-ways : OwnerAndPlace count first last
   unfolding m
   both-ways =
       record {
-        owner-is = λ s k q e p i. (owner-place s k q e p i, λ c. on-owner s e p i k q (place-on s e p i k q c));
-        owner-gap = λ s k q hs hk hq. (
-          λ h e p i c. let z : ownedBy e p i ≡ noOwner = sym (on-owner s e p i k q (place-on s e p i k q c)) ∙ h in let o : _≡_ {A = ℕ} 0 1 = cc in omega arith,
-          λ none. owner-in s k q (bit-there s k q hs hk hq) ∙ ap ownedAs (owner-none m g s k q (named-has-bytes s hs) (λ e p i f c. none e p i (covered-place s e p i k q f c))),
+        owner-is = λ s k q e p i n. (
+          λ h.
+              let c = owner-place s k q e p i n h in
+              let z : ownedBy e p i (suc e) ≡ ownedBy e p i n = sym (on-owner s e p i k q (place-on s e p i k q c)) ∙ h in
+              (c, cc),
+          λ c. on-owner s e p i k q (place-on s e p i k q (c .0)) ∙ ap (ownedBy e p i) (sym (c .1)),
         );
+        owner-gap = λ s k q n hs hk hq.
+            let there = owner-in s k q (bit-there s k q hs hk hq) in (
+              λ h. (
+                λ e p i c. let z : ownedBy e p i (suc e) ≡ noOwner n = sym (on-owner s e p i k q (place-on s e p i k q c)) ∙ h in let o : _≡_ {A = ℕ} 0 1 = cc in omega arith,
+                record { last = coverIndex (m .entries) k; covers = set-covered count first last s k ok hk; counts = sym (owned-gap (lookedAt m k) (ownerOf m s k q) (sym there ∙ h)) },
+              ),
+              λ h.
+                  there
+                  ∙ ap (ownedAs (lookedAt m k)) (owner-none m g s k q (named-has-bytes s hs) (λ e p i f c. h .0 e p i (covered-place s e p i k q f c)))
+                  ∙ ap noOwner (looks-at (h .1 .covers) ∙ sym (h .1 .counts)),
+            );
         place-owned = λ s e p i k q h. on-owner s e p i k q (place-on s e p i k q (lowest s e p i k q h));
+        one-space = λ s k h. (coverIndex (m .entries) k, set-covered count first last s k ok h);
+        no-other = λ e e′ k c c′. sym (index-is m g c) ∙ index-is m g c′;
+        no-space = λ e k h c. omega (arith, h, c .low, c .top);
         placed = λ s e p i h. place-field s e p i (holds-field m s e p i h);
         inside = λ s e p i k q c.
             let o : On s e p i k q = place-on s e p i k q c in
-            (omega (arith, o .covers .byte), omega (arith, o .covers .byte, in-entry m g (o .field)), o .short, o .bit);
+            (on-spans o .low, on-spans o .top, o .short, o .bit);
         disjoint = λ s e p i e′ p′ i′ k q c c′.
             let o : On s e p i k q = place-on s e p i k q c in
             let o′ : On s e′ p′ i′ k q = place-on s e′ p′ i′ k q c′ in

@@ -14,7 +14,7 @@ use Rattle.rules.specs.Place.{entry, isSet, isLane, lengthOf, fieldByte,
 use Rattle.rules.specs.Accept.{weightOf}
 use Rattle.rules.specs.Refuse.{Verdict, passes, refuses, refuseIf, firstOf, decide, check9, refusalOf, checkEntries, orderOf}
 use Rattle.rules.specs.Bank.{Bank, numberIn, bankDoes, bankCall, freshened, freshCall}
-use Rattle.rules.specs.Beside.{placed, placeOf, ownedAs, owned, isBit, ownerCall, answered, entryVerdict, entryAnswer, isWeighed, weightCall}
+use Rattle.rules.specs.Beside.{placed, placeOf, lookedAt, ownedAs, owned, isBit, ownerCall, answered, entryVerdict, entryAnswer, isWeighed, weightCall}
 use Rattle.rules.specs.Conditions.{Rule, gives, First, Lane, planRules, callRules, stringRules, bankRules}
 use Rattle.rules.specs.Demands.{Accepted}
 use Rattle.rules.proofs.Basics.Facts.{lt-says, eq-says, and-says₃}
@@ -60,9 +60,9 @@ does-answers m (publish e p i v) b x = yes-answers x
 does-answers m (apply s lanes) b x = yes-answers x
 
 -- the owner of a bit is a field or a gap
-owner-answers : (o : Owner) (x : Refusal) → ¬ (ownedAs o ≡ notOwned x)
-owner-answers (field e p i) x h = let o : _≡_ {A = ℕ} 0 1 = cc in omega arith
-owner-answers gap x h = let o : _≡_ {A = ℕ} 0 1 = cc in omega arith
+owner-answers : (n : ℕ) (o : Owner) (x : Refusal) → ¬ (ownedAs n o ≡ notOwned x)
+owner-answers n (field e p i) x h = let o : _≡_ {A = ℕ} 0 1 = cc in omega arith
+owner-answers n gap x h = let o : _≡_ {A = ℕ} 0 1 = cc in omega arith
 
 module _ (count : ℕ) (first last : List ℕ) where
   abbrev m : Map
@@ -101,9 +101,9 @@ module _ (count : ℕ) (first last : List ℕ) where
       ↔ First (stringRules count first last (gives (plain 10) (¬ ((s < 3) × (k < lengthOf m s) × (q < 8))) ∷ [])) x
   unfolding ownerCall
   owner-says s k q =
-      answer-says notOwned (λ x y h. cc) (λ v. owned v (ownedAs (ownerOf m s k q))) (λ r. refl) _
+      answer-says notOwned (λ x y h. cc) (λ v. owned v (ownedAs (lookedAt m k) (ownerOf m s k q))) (λ r. refl) _
       (order-says count first last (also (refuse-not-says (isBit m s k q) (plain 10) bit) none))
-      (λ _. owner-answers (ownerOf m s k q))
+      (λ _. owner-answers (lookedAt m k) (ownerOf m s k q))
     where
       bit : T (isBit m s k q) ↔ ((s < 3) × (k < lengthOf m s) × (q < 8))
       bit = and-says₃ (isSet s) (ltb k (lengthOf m s)) (ltb q 8) (lt-says s 3) (lt-says k _) (lt-says q 8)

@@ -10,11 +10,11 @@ owner-requires c κs = search needs
 enum-known-owned : tie.Need-enum-known-owned
 enum-known-owned c = search needs
 
-enum-told : tie.Need-enum-told
-enum-told c = search needs
-
 enum-known-owned-2 : tie.Need-enum-known-owned-2
 enum-known-owned-2 c = search needs
+
+enum-known-owned-3 : tie.Need-enum-known-owned-3
+enum-known-owned-3 c = search needs
 
 reason-of-requires : tie.Need-reason-of-requires
 reason-of-requires c κs = search needs
@@ -23,10 +23,10 @@ returns : tie.Need-returns
 returns c = rw (← c .before .before .before .owner .ensures, c .before .owned .given .1) refl
 
 returns-2 : tie.Need-returns-2
-returns-2 c = rw (← c .before .before .owner .ensures, c .enum-told .given .1) refl
+returns-2 c = rw (← c .before .before .before .owner .ensures, c .before .owned2 .given .1) refl
 
 returns-3 : tie.Need-returns-3
-returns-3 c = rw (← c .before .before .before .before .owner .ensures, c .before .before .owned2 .given .1, c .reason-of .ensures) refl
+returns-3 c = rw (← c .before .before .before .before .owner .ensures, c .before .before .owned3 .given .1, c .reason-of .ensures) refl
 
 pub vcs-owner-spec : {M : Type 1} → statement M
 vcs-owner-spec =
@@ -34,8 +34,8 @@ vcs-owner-spec =
     (tie.spec
     owner-requires
     enum-known-owned
-    enum-told
     enum-known-owned-2
+    enum-known-owned-3
     reason-of-requires
     returns
     returns-2

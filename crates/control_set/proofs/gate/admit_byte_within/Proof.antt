@@ -23,11 +23,11 @@ fine c = sym (c .before .limits .ensures) ∙ not-false _ (c .if1 .left)
 covering : (c : tie.After-known-told2) →
     let g = c .before .before .before .before .before .before .before .before .before .args in
     let x = c .before .covered2 .given .0 in
-    Covering (g .count) (now (g .rw)) (now (g .ro)) (g .offset) (x .1 .1 .1 .1 .0) (x .0) (x .1 .0) (x .1 .1 .0) (x .1 .1 .1 .0)
+    Covering (g .count) (now (g .rw)) (now (g .ro)) (g .offset) (x .1 .1 .1 .1 .1 .0) (x .0) (x .1 .0) (x .1 .1 .0) (x .1 .1 .1 .0)
 covering c =
     let k = c .before .before .before in
     let g = k .before .before .before .before .before .before .args in
-    cover-one (g .count) (now (g .rw)) (now (g .ro)) (g .offset) _ _ _ _ _ (sym (k .cover .ensures) ∙ c .before .covered2 .given .1)
+    cover-one (g .count) (now (g .rw)) (now (g .ro)) (g .offset) _ _ _ _ _ _ (sym (k .cover .ensures) ∙ c .before .covered2 .given .1) .0
 
 limits-requires : tie.Need-limits-requires
 limits-requires c κs = search needs
