@@ -43,8 +43,8 @@ pub fn place(
     }
 }
 
-// The field that has a bit of an entry's space, counted from its offset: a part's bits in a row, W to a lane. With the number of entries
-// looked at.
+// The field that has a bit of an entry's space, counted from its offset: the lanes of all parts in a row, W bits each, 8 to a part. With the
+// number of entries looked at.
 fn field_in(
     number: usize,
     parts: usize,
@@ -59,11 +59,11 @@ fn field_in(
     if !(byte < parts * width) {
         return Owned::Gap { looked };
     }
-    let bits = byte % width * 8 + bit;
+    let before = (byte * 8 + bit) / width;
     Owned::Field {
         entry: number,
-        part: byte / width,
-        lane: bits / width + 1,
+        part: before / 8,
+        lane: before % 8 + 1,
         looked,
     }
 }
