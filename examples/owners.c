@@ -23,7 +23,8 @@ static void print_byte(size_t offset)
     printf("byte %zu: looked at %zu;", offset, owners[0].looked_at);
     for (size_t first = 0, next; first < 8; first = next) {
         vcs_owned owner = owners[first];
-        for (next = first + 1; next < 8 && memcmp(&owners[next], &owner, sizeof owner) == 0;) {
+        next = first + 1;
+        while (next < 8 && memcmp(&owners[next], &owner, sizeof owner) == 0) {
             next++;
         }
         printf(first == 0 ? " " : ", ");

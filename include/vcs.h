@@ -81,7 +81,7 @@ typedef struct {
 } vcs_placed;
 
 /* Whose a bit of a set is: entry, part and lane (1 to 8) of its field. In a gap `gap` is 1 and these are 0. In both cases
-   `looked_at` is the number of entries looked at: that of the entry whose space covers the byte, plus one. */
+   `looked_at` is the number of entries looked at: the number of the entry whose space covers the byte, plus one. */
 typedef struct {
     size_t refusal;
     size_t at;

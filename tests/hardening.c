@@ -785,6 +785,9 @@ static int owner(const vcs_call *c)
     if (answer.gap > 1 || answer.entry != (answer.gap ? 0 : entries - 1)) {
         fail("owner", "a field of another entry");
     }
+    if (answer.gap ? answer.part != 0 || answer.lane != 0 : answer.lane < 1 || answer.lane > 8) {
+        fail("owner", "a gap with a part or a lane, or another lane");
+    }
     searched[entries > map.rw_count][answer.gap][empty > 0]++;
     return 1;
 }

@@ -1,25 +1,24 @@
 -- The laws of `coverOf`: from the load's answer and where the searches end, and what a caller learns from each answer.
 use mathlib.Core.Path.{_≡_, refl, sym, ap, _∙_}
-use mathlib.Core.Bool.{Bool, true, false, _&&_, not, cond}
-use mathlib.Core.List.{List, [], _∷_}
-use Prim.Native.Nat.{ℕ, zero, suc, _+_, _*_, _-_, _≤_, _<_}
+use mathlib.Core.Bool.{Bool, true, false, not, cond}
+use mathlib.Core.List.{List, []}
+use Prim.Native.Nat.{ℕ, suc, _+_, _*_, _≤_, _<_}
 use native.Mathlib.Omega.{arith}
-use lib.ListN.{length, getD}
-use lib.Dec.{ltb, leb, ltb→lt, leb→le}
-use borrow.Author.Tests.{ltb-true, ltb-false, lt-ltb, le-ltb, le-leb}
-use Rattle.rules.specs.declared.Entry.{Entry}
+use lib.ListN.{length}
+use lib.Dec.{ltb}
+use borrow.Author.Tests.{ltb-true, ltb-false, lt-ltb, le-ltb}
 use Rattle.rules.specs.declared.Refusal.{Refusal}
 use Rattle.rules.specs.declared.Refusal.the-variants.{Plain as plain}
 use Rattle.rules.specs.declared.Loaded.{Loaded}
 use Rattle.rules.specs.declared.Loaded.the-variants.{Accepted as accepted, Refused as rejected}
 use Rattle.rules.specs.Descriptor.{maskBytes, byteAt, entryAt, entryLimit}
-use Rattle.rules.specs.Load.{Map, sized, loadOf, total, mapOf}
-use Rattle.rules.specs.Place.{nothing, entry, partsOf, widthOf, isRW, heldBy, lengthOf}
+use Rattle.rules.specs.Load.{Map, sized, loadOf, mapOf}
+use Rattle.rules.specs.Place.{entry, partsOf, widthOf, isRW, heldBy, lengthOf}
 use Rattle.rules.specs.Refuse.{check9, orderOf}
 use Rattle.rules.specs.Beside.{coverIndex, lookedAt}
 use Rattle.rules.specs.Demands.{Accepted}
-use Rattle.rules.proofs.Place.CoverIndex.{index-spans, index-none, index-is, length-most}
-use Rattle.rules.proofs.Load.Walks.{map-good}
+use Rattle.rules.proofs.Place.CoverIndex.{index-spans, index-none, index-is}
+use Rattle.rules.proofs.Load.Walks.{map-good, length-most}
 use Rattle.rules.proofs.Load.EntryHeads.{Head, strings-short, few-entries}
 use Rattle.rules.proofs.Refusals.Orders.{order-refused, order-accepted}
 use Rattle.descriptor.specs.declared.Covered.{Covered}
@@ -145,7 +144,7 @@ module _ (count : ℕ) (first last : List ℕ) (k n c d t : ℕ) (h : loadOf cou
   short true = strings-short count first last ok .1
   short false = strings-short count first last ok .0
 
-  -- both strings' entries
+  -- both strings together have at most twice the limit
   pub covers-few : n + c ≤ 2 * entryLimit
   covers-few = omega (arith, all-count count first last n c d t h, few-entries count first last ok)
 

@@ -30,11 +30,12 @@ covered (refuses r) x = notCovered r
 unfoldable pub coverOf : ℕ → List ℕ → List ℕ → ℕ → Covered
 coverOf count rw ro k = covered (orderOf (readOf count rw ro) []) (coverIn (mapOf count rw ro) k)
 
--- the entries of a string that a search for byte k may read: those whose spaces begin at it or before it. None behind the covering one does
+-- what a search for byte k is told of a string's entries: where those stand whose spaces begin at it or before it, which none behind the covering one does
 abbrev pub Reachable : ℕ → List ℕ → ℕ → ℕ → ℕ → Type 0
 Reachable a s sum n k = (i : ℕ) → i < n → markAfter a s sum i .sum ≤ k → OnEntry a s (markAfter a s sum i)
 
--- past entries whose spaces end at byte k or before it: all n of a string, or up to one whose space ends past it, which is looked at too
+-- past entries whose spaces end at byte k or before it: all n of a string, or up to one whose space ends past it, which is looked at too.
+-- `before`: entries looked at already
 pub record Hits (a : ℕ) (s : List ℕ) (sum n k before : ℕ) (h : Hit) : Type 0 where
   pub few : h .number ≤ n
   pub is : markAfter a s sum (h .number) ≡ record { at = h .at; sum = h .sum }

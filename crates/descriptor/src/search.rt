@@ -46,7 +46,7 @@ pub struct Hit {
 }
 
 // Past the entries of a string up to the first whose space ends past a byte, or past all n. Every entry that is looked at is counted,
-// with those looked at before; of none behind that first one is anything known, so that none can be read.
+// with those looked at before. It is told of no entry behind that first one.
 pub fn look(a: usize, s: &[u8], sum: usize, n: usize, offset: usize, before: usize) -> Hit
     requires { ⌜ Reachable a (now s) sum n offset × (sum ≤ offset) × (before + n ≤ 2 * entryLimit) ⌝ }
     ensures { λ r. ⌜ Hits a (now (s .entry)) sum n offset before r ⌝ }
@@ -56,8 +56,8 @@ pub fn look(a: usize, s: &[u8], sum: usize, n: usize, offset: usize, before: usi
     let mut looked = before;
     while number < n {
         let after = past(a, s, mark);
-        let end = after.sum;
         looked += 1;
+        let end = after.sum; // of the entry's space
         if offset < end {
             break;
         }

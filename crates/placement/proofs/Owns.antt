@@ -23,7 +23,6 @@ use Rattle.rules.proofs.Bank.Places.{named-has-bytes}
 use Rattle.descriptor.proofs.TableRows.{parts-few, width-narrow}
 use Rattle.descriptor.proofs.Covers.{Covering}
 use Rattle.placement.specs.Owner.{fieldIn}
-use Rattle.placement.proofs.Small.{product-some, part-is, lane-is}
 
 -- no entry covers the byte: no set has it
 pub owns-none :
@@ -70,13 +69,12 @@ module _ (count : ℕ) (first last : List ℕ) {k : ℕ} {inRO : Bool} {n o part
 
         go : (b : Bool) → ltb (k - entry m n .offset) (partsOf (entry m n) * widthOf (entry m n)) ≡ b
             → cond b
-            (ownedBy n (((k - entry m n .offset) * 8 + q) / widthOf (entry m n) / 8) (((k - entry m n .offset) * 8 + q) / widthOf (entry m n) % 8 + 1) (lookedAt m k))
+            (ownedBy n ((k - entry m n .offset) / widthOf (entry m n)) (((k - entry m n .offset) % widthOf (entry m n) * 8 + q) / widthOf (entry m n) + 1) (lookedAt m k))
             (noOwner (lookedAt m k))
             ≡ ownedAs (lookedAt m k) (ownerOf m s k q)
         go true x =
             let l : k - entry m n .offset < partsOf (entry m n) * widthOf (entry m n) = ltb-true _ _ x in
-            let w : 0 < widthOf (entry m n) = product-some _ _ _ l in
-            rw (part-is _ _ q w bit, lane-is _ _ q w bit, add-one) (sym (ap (ownedAs (lookedAt m k)) (owner-field m g s k q (named-has-bytes s set) bit (record { ent = held; low = c .low; top = omega arith }))))
+            rw add-one (sym (ap (ownedAs (lookedAt m k)) (owner-field m g s k q (named-has-bytes s set) bit (record { ent = held; low = c .low; top = omega arith }))))
         go false x =
             let l : partsOf (entry m n) * widthOf (entry m n) ≤ k - entry m n .offset = ltb-false _ _ x in
             sym (ap (ownedAs (lookedAt m k)) (owner-surplus m g s k q (named-has-bytes s set) bit n held (omega (arith, c .low)) (c .top)))

@@ -5,7 +5,6 @@ use lib.Dec.{ltb}
 use Rattle.rules.specs.declared.Owned.{Owned}
 use Rattle.rules.specs.declared.Owned.the-variants.{Field as ownedBy, Gap as gap}
 
--- "Part p starts at offset + p × W": the lanes of all parts in a row, W bits each, 8 to a part; "surplus MemoryLength" is a gap. With the number of
--- entries looked at
+-- "Part p starts at offset + p × W": the bits of a part in a row, W to a lane; "surplus MemoryLength" is a gap. With the number of entries looked at
 unfoldable pub fieldIn : ℕ → ℕ → ℕ → ℕ → ℕ → ℕ → Owned
-fieldIn n parts width c byte bit = cond (ltb byte (parts * width)) (ownedBy n ((byte * 8 + bit) / width / 8) ((byte * 8 + bit) / width % 8 + 1) c) (gap c)
+fieldIn n parts width c byte bit = cond (ltb byte (parts * width)) (ownedBy n (byte / width) ((byte % width * 8 + bit) / width + 1) c) (gap c)

@@ -24,7 +24,7 @@ placeOn r s e p i =
 unfoldable pub placeOf : ℕ → List ℕ → List ℕ → ℕ → ℕ → ℕ → ℕ → Placed
 placeOf count rw ro s e p i = placeOn (readOf count rw ro) s e p i
 
--- an entry's space, offset to offset + MemoryLength; 02, note 12: "An entry with MemoryLength 0 covers no byte"
+-- an entry's space, from offset up to offset + MemoryLength, not included; 02, note 12: "An entry with MemoryLength 0 covers no byte"
 abbrev pub spans : Entry → ℕ → Bool
 spans e k = leb (e .offset) k && ltb k (e .offset + e .memory)
 

@@ -1,4 +1,5 @@
-//! The checks 9, 8, 16 and 1 to 7 in one pass over both strings, which shows each entry to the call as it passes.
+//! The checks 9, 8, 16 and 1 to 7 in one pass over both strings, which shows each entry to the call as it passes; and owner's
+//! search after it.
 
 use super::layout::{BANK_SIZE, SET_SIZE};
 use super::rows::{Row, HAS_CODES, HAS_FLAGS, HAS_STEP, HOST_FIRST, IN_RO, IN_RW, MAX_FIRST, ROWS};

@@ -12,9 +12,9 @@ use borrow.Author.Tests.{ltb-true, ltb-false}
 use Rattle.rules.specs.Words.{Entry}
 use Rattle.rules.specs.Descriptor.{maskBytes, entryAt, entryLimit}
 use Rattle.rules.specs.Load.{rwEntries, roEntries, total, mapOf, bothWithin, mapWithin}
-use Rattle.rules.specs.Place.{nothing, entry, isStaged, isRW, heldBy, lengthOf}
+use Rattle.rules.specs.Place.{nothing, entry, isRW, heldBy}
 use Rattle.rules.specs.Demands.{Accepted, lengths}
-use Rattle.rules.proofs.Basics.Tests.{and₄, by-test}
+use Rattle.rules.proofs.Basics.Tests.{and₄}
 use Rattle.rules.proofs.Load.Checks.{decode-passed}
 use Rattle.rules.proofs.Place.AcceptedMap.{entry-ends}
 use Rattle.rules.proofs.Load.Walks.{load-accepted, load-few, total-append, map-good}

@@ -2,7 +2,7 @@
 use mathlib.Core.Path.{_≡_, refl, sym, ap, _∙_, subst}
 use mathlib.Core.Bool.{Bool, true, false, cond}
 use mathlib.Core.List.{List, [], _∷_, _++_}
-use Prim.Native.Nat.{ℕ, zero, suc, _+_, _-_, _≤_, _<_}
+use Prim.Native.Nat.{ℕ, zero, suc, _+_, _≤_, _<_}
 use native.Mathlib.Omega.{arith}
 use native.Mathlib.Nat.{zero-add}
 use lib.ListN.{length, getD, length-append, List·getD-append}
@@ -123,6 +123,14 @@ pub total-append : (l r : List Entry) → total (l ++ r) ≡ total l + total r
 unfolding total
 total-append [] r = sym (zero-add (total r))
 total-append (i ∷ l) r = let e = total-append l r in omega arith
+
+-- no set is longer than the sum of all
+pub length-most : (count : ℕ) (rw ro : List ℕ) (s : ℕ) → lengthOf (mapOf count rw ro) s ≤ total (mapOf count rw ro .entries)
+unfolding mapWithin lengthOf bothWithin
+length-most count first last s =
+    by-test (λ n. n ≤ total (rwEntries count first ++ roEntries count first last)) (isStaged s) _ _
+    (λ _. omega (arith, total-append (rwEntries count first) (roEntries count first last)))
+    (λ _. omega arith)
 
 -- an entry ends within its list's sum
 ends-all : (n : ℕ) (l : List Entry) (k : ℕ) → Good n l → k < length l → getD l k nothing .offset + getD l k nothing .memory ≤ n + total l
