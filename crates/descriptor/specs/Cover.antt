@@ -30,7 +30,7 @@ covered (refuses r) x = notCovered r
 unfoldable pub coverOf : ℕ → List ℕ → List ℕ → ℕ → Covered
 coverOf count rw ro k = covered (orderOf (readOf count rw ro) []) (coverIn (mapOf count rw ro) k)
 
--- what a search for byte k is told of a string's entries: where those stand whose spaces begin at it or before it, which none behind the covering one does
+-- what a search for byte k is told of a string: where the entries stand whose spaces begin at the byte or before it. None behind the covering one does
 abbrev pub Reachable : ℕ → List ℕ → ℕ → ℕ → ℕ → Type 0
 Reachable a s sum n k = (i : ℕ) → i < n → markAfter a s sum i .sum ≤ k → OnEntry a s (markAfter a s sum i)
 
