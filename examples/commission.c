@@ -58,10 +58,11 @@ int main(int words, char **word)
     size_t entries = map.rw_count + map.ro_count;
     printf("%zu entries, staged length %zu, active length %zu\n", entries, map.staged_length, map.active_length);
 
-    /* Entry 8 is the host's channel loss for Rx (0Fh): where does its field of lane 3 stand in a set? */
+    /* Entry 8 is the host's channel loss for Rx (0Fh): where does its field of lane 3 stand in staged set 0? */
     vcs_placed placed = vcs_place(MODULE, 0, 8, 0, 3);
     accepted("place", (vcs_answer){placed.refusal, placed.at, 0});
-    printf("entry 8, part 0, lane 3: offset %zu, bit %zu\n", placed.offset, placed.bit);
+    printf("entry 8, part 0, lane 3: offset %zu, page %02zXh, byte %zu, bit %zu\n", placed.offset, placed.page, placed.byte,
+           placed.bit);
 
     /* Staged set 0: application 1 in lanes 1 to 4, 2 in the others, and the settings. */
     for (size_t lane = 1; lane <= 8; lane++) {

@@ -46,10 +46,10 @@ fn main() -> Result<(), Box<dyn Error>> {
     let entries = map.rw_count + map.ro_count;
     println!("{entries} entries, staged length {}, active length {}", map.staged_length, map.active_length);
 
-    // Entry 8 is the host's channel loss for Rx (0Fh): where does its field of lane 3 stand in a set?
-    let placed = vcs::place(count, &rw, &ro, 0, 8, 0, 3);
-    accepted("place", vcs::Answer { refusal: placed.refusal, at: placed.at, number: 0 });
-    println!("entry 8, part 0, lane 3: offset {}, bit {}", placed.offset, placed.bit);
+    // Entry 8 is the host's channel loss for Rx (0Fh): where does its field of lane 3 stand in staged set 0?
+    let vcs::Placed { refusal, at, offset, page, byte, bit } = vcs::place(count, &rw, &ro, 0, 8, 0, 3);
+    accepted("place", vcs::Answer { refusal, at, number: 0 });
+    println!("entry 8, part 0, lane 3: offset {offset}, page {page:02X}h, byte {byte}, bit {bit}");
 
     // Staged set 0: application 1 in lanes 1 to 4, 2 in the others, and the settings.
     for lane in 1..=8 {

@@ -1,4 +1,5 @@
-//! Prints the active record byte by byte: how many entries owner looked at until one covered the byte, and whose its bits are.
+//! Prints the active record byte by byte, by page and byte and then by offset: how many entries owner looked at until one
+//! covered the byte, and whose its bits are.
 //!
 //!     rt staticlib vcs
 //!     rustc --edition 2021 -L target/staticlib -l static=vcs examples/owners.rs -o target/owners-rust
@@ -9,9 +10,9 @@ mod vcs;
 
 use std::{env, error::Error, fs, process};
 
-/// A byte: its bits in runs of one field or gap. All bits of a byte are in one entry's space.
-fn print_byte(offset: usize, owners: &[vcs::Owned]) {
-    print!("byte {offset}: looked at {};", owners[0].looked_at);
+/// A byte's bits in runs of one field or gap. All bits of a byte are in one entry's space.
+fn print_bits(owners: &[vcs::Owned]) {
+    print!(": looked at {};", owners[0].looked_at);
     let mut first = 0;
     for run in owners.chunk_by(|owner, next| owner == next) {
         let last = first + run.len() - 1;
@@ -40,8 +41,22 @@ fn main() -> Result<(), Box<dyn Error>> {
         process::exit(1);
     }
     println!("{rw_count} and {ro_count} entries, active length {active_length}");
-    for offset in 0..active_length {
-        print_byte(offset, &[0, 1, 2, 3, 4, 5, 6, 7].map(|bit| vcs::owner(count, &rw, &ro, 2, offset, bit)));
+
+    // The page and the overflow page of the active set, 2. An address outside the set is refused with 10. As many offsets as
+    // bytes are found there have an address.
+    let bits = [0, 1, 2, 3, 4, 5, 6, 7];
+    let mut found = 0;
+    for (page, byte) in [0x11, 0x19].into_iter().flat_map(|page| (0..=255).map(move |byte| (page, byte))) {
+        let owners = bits.map(|bit| vcs::owner_at(count, &rw, &ro, 2, page, byte, bit));
+        if owners[0].refusal == 0 {
+            print!("page {page:02X}h byte {byte}");
+            print_bits(&owners);
+            found += 1;
+        }
+    }
+    for offset in found..active_length {
+        print!("offset {offset}");
+        print_bits(&bits.map(|bit| vcs::owner(count, &rw, &ro, 2, offset, bit)));
     }
     Ok(())
 }

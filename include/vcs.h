@@ -72,11 +72,19 @@ typedef struct {
     size_t offset;
 } vcs_located;
 
-/* Where a field stands in a set: the offset of its byte, and its lowest bit there, 0 to 7. */
+/* Where a field stands in a set: the offset of its byte; page and byte, the address that Table 4-1 of OIF-CMIS-VCS-01.1
+   gives to this offset; and the field's lowest bit there, 0 to 7. Offsets run on from a set's page to its overflow page:
+     staged set 0: page 10h, bytes 153 to 175, offsets 0 to 22; page 18h, bytes 144 to 199, offsets 23 to 78
+     staged set 1: page 10h, bytes 188 to 210, offsets 0 to 22; page 18h, bytes 200 to 255, offsets 23 to 78
+     active set:   page 11h, bytes 214 to 234, offsets 0 to 20; page 19h, bytes 152 to 207, offsets 21 to 76
+   An offset past the last of its set has no address: page and byte are 0. No entry is moved to keep it on one page: where
+   a module leaves bytes free before the border, its string has an entry for them (00h), or addresses behind them differ. */
 typedef struct {
     size_t refusal;
     size_t at;
     size_t offset;
+    size_t page;
+    size_t byte;
     size_t bit;
 } vcs_placed;
 
@@ -154,6 +162,12 @@ vcs_placed vcs_place(size_t count, const uint8_t *rw, size_t rw_length, const ui
    passed. Refusals 9, 16, 1 to 7, 10. */
 vcs_owned vcs_owner(size_t count, const uint8_t *rw, size_t rw_length, const uint8_t *ro, size_t ro_length, size_t set,
                     size_t offset, size_t bit);
+
+/* The owner call by address: the answer is that of `vcs_owner` at the offset which page and byte have in the set. An address
+   that isn't one of the set's (page 0, byte 0 is none), or whose offset isn't below the set's length, is refused with 10.
+   Refusals 9, 16, 1 to 7, 10. */
+vcs_owned vcs_owner_at(size_t count, const uint8_t *rw, size_t rw_length, const uint8_t *ro, size_t ro_length, size_t set,
+                       size_t page, size_t byte, size_t bit);
 
 /* Fresh: clears the bank, and answers as the load does. Refusals 9, 8, 16, 1 to 7. */
 vcs_loaded vcs_fresh(size_t count, const uint8_t *rw, size_t rw_length, const uint8_t *ro, size_t ro_length,

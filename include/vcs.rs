@@ -89,13 +89,23 @@ pub struct Located {
     pub offset: usize,
 }
 
-/// Where a field stands in a set: the offset of its byte, and its lowest bit there, 0 to 7.
+/// Where a field stands in a set: the offset of its byte; page and byte, the address that Table 4-1 of OIF-CMIS-VCS-01.1
+/// gives to this offset; and the field's lowest bit there, 0 to 7. Offsets run on from a set's page to its overflow page:
+///
+/// - staged set 0: page 10h, bytes 153 to 175, offsets 0 to 22; page 18h, bytes 144 to 199, offsets 23 to 78
+/// - staged set 1: page 10h, bytes 188 to 210, offsets 0 to 22; page 18h, bytes 200 to 255, offsets 23 to 78
+/// - active set: page 11h, bytes 214 to 234, offsets 0 to 20; page 19h, bytes 152 to 207, offsets 21 to 76
+///
+/// An offset past the last of its set has no address: page and byte are 0. No entry is moved to keep it on one page: where a
+/// module leaves bytes free before the border, its string has an entry for them (00h), or addresses behind them differ.
 #[repr(C)]
 #[derive(Clone, Copy, Debug, Default, PartialEq, Eq)]
 pub struct Placed {
     pub refusal: usize,
     pub at: usize,
     pub offset: usize,
+    pub page: usize,
+    pub byte: usize,
     pub bit: usize,
 }
 
@@ -196,6 +206,11 @@ calls! {
     /// is counted when passed. Refusals 9, 16, 1 to 7, 10.
     owner(set: usize, offset: usize, bit: usize) -> Owned = vcs_owner(set, offset, bit);
 
+    /// The owner call by address: the answer is that of `owner` at the offset which page and byte have in the set. An
+    /// address that isn't one of the set's (page 0, byte 0 is none), or whose offset isn't below the set's length, is
+    /// refused with 10. Refusals 9, 16, 1 to 7, 10.
+    owner_at(set: usize, page: usize, byte: usize, bit: usize) -> Owned = vcs_owner_at(set, page, byte, bit);
+
     /// Fresh: clears the bank, and answers as the load does. Refusals 9, 8, 16, 1 to 7.
     fresh(bank: &mut [u8]) -> Loaded = vcs_fresh(bank.as_mut_ptr(), bank.len());
 
@@ -264,6 +279,8 @@ unsafe extern "C" {
                      set: usize, entry: usize, part: usize, lane: usize) -> Placed;
     pub fn vcs_owner(count: usize, rw: *const u8, rw_length: usize, ro: *const u8, ro_length: usize,
                      set: usize, offset: usize, bit: usize) -> Owned;
+    pub fn vcs_owner_at(count: usize, rw: *const u8, rw_length: usize, ro: *const u8, ro_length: usize,
+                        set: usize, page: usize, byte: usize, bit: usize) -> Owned;
     pub fn vcs_fresh(count: usize, rw: *const u8, rw_length: usize, ro: *const u8, ro_length: usize,
                      bank: *mut u8, bank_length: usize) -> Loaded;
     pub fn vcs_select(count: usize, rw: *const u8, rw_length: usize, ro: *const u8, ro_length: usize,

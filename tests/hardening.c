@@ -10,6 +10,8 @@
    number that this can have; take must take one.
    Owner must have looked at the entries up to the one whose space covers the byte, by the MemoryLengths in the strings. Fields
    and gaps must occur in either string, also behind an entry with MemoryLength 0.
+   Place must give the page and byte that Table 4-1 gives to its offset, and owner by address must answer as owner does at the
+   offset of the address, or refuse it. Fields, gaps and refusals must occur at and beside the ends of every page of every set.
    A load made entry by entry must end as the load does. Pass and resume are called where it was broken off, and with any
    state. Pass must answer by the entry's bytes and the state alone, resume as pass after pass does, and the same from behind
    an entry as from before it. Both must occur in either string and between them, with each refusal.
@@ -29,13 +31,13 @@ enum { PAGE = 4096, LONGEST = 120, LARGEST = VCS_SET_SIZE };
 
 /* The exports, perform by kind; the first seven are numbered as perform's kinds. */
 enum {
-    SELECT, WRITE, READ, BYTE_WRITE, BYTE_READ, PUBLISH, APPLY, PERFORM, LOAD = PERFORM + 7, ENTRY, PLACE, OWNER, FRESH,
-    WEIGHT, TAKE, PASS, RESUME, EXPORTS
+    SELECT, WRITE, READ, BYTE_WRITE, BYTE_READ, PUBLISH, APPLY, PERFORM, LOAD = PERFORM + 7, ENTRY, PLACE, OWNER, OWNER_AT,
+    FRESH, WEIGHT, TAKE, PASS, RESUME, EXPORTS
 };
 static const char *const NAMES[EXPORTS] = {
     "select", "write", "read", "byte write", "byte read", "publish", "apply", "perform select", "perform write",
     "perform read", "perform byte write", "perform byte read", "perform publish", "perform apply", "load", "entry", "place",
-    "owner", "fresh", "weight", "take", "pass", "resume",
+    "owner", "owner at", "fresh", "weight", "take", "pass", "resume",
 };
 
 /* What a refusal names, by its number, and whether count, strings and bank alone decide it; 0 stands for an accepted call,
@@ -64,6 +66,23 @@ static size_t full[2], strays[2], seventeenths[2][NUMBERS], seventeenths_taken[2
 /* Accepted owner calls: by the string of the entry that covers the byte, by gap, and by whether entries before it have
    MemoryLength 0. */
 static size_t searched[2][2][2];
+
+/* Where a byte of a set stands in Table 4-1. By set and by this: accepted places; accepted owner calls by address, also by
+   gap. */
+enum { ON_PAGE, PAGE_END, OVERFLOW_START, ON_OVERFLOW, TABLE_END, PAST_TABLE, STANDS };
+static const char *const STAND_NAMES[STANDS] = {
+    "before the page's last byte", "in the page's last byte", "in the overflow page's first byte", "in the overflow page",
+    "in the overflow page's last byte", "past the table",
+};
+static size_t placed[3][STANDS], told[3][2][STANDS];
+
+/* What an address is that a set refuses with 10: its own but past its length, page 0 and byte 0, another set's, directly
+   beside its own, or any other. By set. */
+enum { PAST_LENGTH, ZERO, OF_ANOTHER, BESIDE, ELSEWHERE, AWAYS };
+static const char *const AWAY_NAMES[AWAYS] = {
+    "past its length", "page 0 and byte 0", "of another set", "beside its own", "elsewhere",
+};
+static size_t away[3][AWAYS];
 
 /* Where a load in pieces stands: in the RW string, at its end, or in the RO string. By this, and by refusal (0: none): passes
    and resumes; the ends that pass told; the passes that left a number of the state above 1 as 1. */
@@ -540,23 +559,25 @@ static int same_loaded(vcs_loaded one, vcs_loaded other)
     return memcmp(&one, &other, sizeof one) == 0;
 }
 
-/* The load of the map, entry by entry, ends as the load did; broken off somewhere, it is taken up again likewise. */
+/* The load of the map, entry by entry, ends as the load did; broken off somewhere, often between the strings or before the
+   entry that is refused, it is taken up again likewise. */
 static void load_in_pieces(void)
 {
-    rest r = {buffers[RW].lent, buffers[RW].length, buffers[RO].lent, buffers[RO].length, {0}};
+    rest r = {buffers[RW].lent, buffers[RW].length, buffers[RO].lent, buffers[RO].length, {0}}, between = r;
     vcs_passed step = {0};
     for (size_t breaks = 1; step.refusal == 0 && step.end == 0; breaks++) {
         if (breaks > 2 * VCS_ENTRY_LIMIT + 1) {
             fail("pass", "it goes past more entries than there are");
         }
         broken = once_in(breaks) ? r : broken;
+        between = place_of(r) == BETWEEN ? r : between;
         step = vcs_pass(LEFT(r));
         r = step.refusal == 0 && step.end == 0 ? behind(r, step) : r;
     }
     if (step.refusal != map.refusal || step.at != map.at || !same_loaded(vcs_resume(LEFT(r)), map)) {
         fail("pass", "the load in pieces has another end");
     }
-    broken = step.refusal != 0 && once_in(2) ? r : broken; /* Before the entry that is refused. */
+    broken = step.refusal != 0 && once_in(2) ? r : once_in(4) ? between : broken;
     if (!same_loaded(vcs_resume(LEFT(broken)), map)) {
         fail("resume", "another answer than the load's");
     }
@@ -689,6 +710,80 @@ static void make_map(void)
     load_in_pieces();
 }
 
+/* ---- Addresses ---- */
+
+/* Table 4-1 of OIF-CMIS-VCS-01.1, by set: the page and the overflow page, each with its first and its last byte. Offsets run
+   on from the one to the other. */
+static const struct {
+    size_t page, first, last;
+} TABLE[3][2] = {
+    {{0x10, 153, 175}, {0x18, 144, 199}},
+    {{0x10, 188, 210}, {0x18, 200, 255}},
+    {{0x11, 214, 234}, {0x19, 152, 207}},
+};
+
+typedef struct {
+    size_t page, byte;
+} address;
+
+/* The first offset of a set behind its page (range 0) or behind its overflow page (range 1). */
+static size_t end_of(size_t set, int range)
+{
+    size_t before = range == 0 ? 0 : end_of(set, 0);
+    return before + TABLE[set][range].last - TABLE[set][range].first + 1;
+}
+
+/* The address of an offset of a set; page 0 and byte 0 if it has none. */
+static address address_of(size_t set, size_t offset)
+{
+    if (offset < end_of(set, 0)) {
+        return (address){TABLE[set][0].page, TABLE[set][0].first + offset};
+    }
+    return offset < end_of(set, 1) ? (address){TABLE[set][1].page, TABLE[set][1].first + offset - end_of(set, 0)}
+                                   : (address){0, 0};
+}
+
+/* The offset of an address of a set; SIZE_MAX, which no set has, if it isn't one. */
+static size_t offset_of(size_t set, address a)
+{
+    for (int i = 0; set < 3 && i < 2; i++) {
+        if (a.page == TABLE[set][i].page && a.byte >= TABLE[set][i].first && a.byte <= TABLE[set][i].last) {
+            return end_of(set, i) - (TABLE[set][i].last - a.byte) - 1;
+        }
+    }
+    return SIZE_MAX;
+}
+
+static int stand_of(size_t set, size_t offset)
+{
+    size_t page = end_of(set, 0), table = end_of(set, 1);
+    return offset >= table       ? PAST_TABLE
+           : offset + 1 == table ? TABLE_END
+           : offset > page       ? ON_OVERFLOW
+           : offset == page      ? OVERFLOW_START
+           : offset + 1 == page  ? PAGE_END
+                                 : ON_PAGE;
+}
+
+static int away_of(size_t set, address a)
+{
+    if (offset_of(set, a) != SIZE_MAX) {
+        return PAST_LENGTH;
+    }
+    if (a.page == 0 && a.byte == 0) {
+        return ZERO;
+    }
+    if (offset_of((set + 1) % 3, a) != SIZE_MAX || offset_of((set + 2) % 3, a) != SIZE_MAX) {
+        return OF_ANOTHER;
+    }
+    for (int i = 0; i < 2; i++) {
+        if (a.page == TABLE[set][i].page && (a.byte == TABLE[set][i].first - 1 || a.byte == TABLE[set][i].last + 1)) {
+            return BESIDE;
+        }
+    }
+    return ELSEWHERE;
+}
+
 /* ---- One call ---- */
 
 /* A call's arguments, aimed at what the map has. */
@@ -792,6 +887,94 @@ static int owner(const vcs_call *c)
     return 1;
 }
 
+/* An address for a call: of its offset, at or beside an end of a page, none, or any; also of another set, or with a bit
+   more. */
+static address any_address(const vcs_call *c)
+{
+    size_t set = c->set < 3 && !once_in(4) ? c->set : below(3), i = below(2);
+    address a = {TABLE[set][i].page, TABLE[set][i].first};
+    switch (below(8)) {
+    case 0:
+        a = (address){0, 0};
+        break;
+    case 1:
+        a = (address){number(0x20), number(256)};
+        break;
+    case 2:
+        a.byte = PICK(size_t, TABLE[set][i].first - 1, TABLE[set][i].last + 1);
+        break;
+    case 3:
+    case 4:
+        a.byte = PICK(size_t, TABLE[set][i].first, TABLE[set][i].last, TABLE[set][i].last);
+        break;
+    default:
+        a = address_of(set, c->offset);
+        break;
+    }
+    if (once_in(16)) {
+        *(once_in(2) ? &a.page : &a.byte) += PICK(size_t, 256, 65536, (size_t)1 << 32, (size_t)1 << 63);
+    }
+    return a;
+}
+
+/* Owner by address answers as at the address's offset, or as at one that no set has. */
+static int owner_at(const vcs_call *c)
+{
+    address a = any_address(c);
+    size_t offset = offset_of(c->set, a), bit = c->lane - 1;
+    vcs_owned answer = vcs_owner_at(LENT, c->set, a.page, a.byte, bit), expected = vcs_owner(LENT, c->set, offset, bit);
+    int is_accepted = judge(OWNER_AT, &answer, sizeof answer);
+    if (memcmp(&answer, &expected, sizeof answer) != 0) {
+        fail("owner at", "another answer than by offset");
+    }
+    if (is_accepted && offset == SIZE_MAX) {
+        fail("owner at", "it is accepted at an address that isn't the set's");
+    }
+    if (is_accepted) {
+        told[c->set][answer.gap != 0][stand_of(c->set, offset)]++;
+    } else if (answer.refusal == 10 && c->set < 3 && bit < 8) {
+        away[c->set][away_of(c->set, a)]++;
+    }
+    return is_accepted;
+}
+
+/* Names a field at the end of a page or overflow page, or directly behind it, if one is there. */
+static void aim_at_end(vcs_call *c)
+{
+    size_t set = below(3), offset = end_of(set, PICK(int, 0, 1, 1)) - PICK(size_t, 0, 1, 1);
+    vcs_owned owned = vcs_owner(LENT, set, offset, below(8));
+    if (owned.refusal == 0 && owned.gap == 0) {
+        c->set = set;
+        c->entry = owned.entry;
+        c->part = owned.part;
+        c->lane = owned.lane;
+    }
+}
+
+/* Page and byte are those of the offset, and owner there tells the field. */
+static int place(vcs_call *c)
+{
+    if (once_in(2)) {
+        aim_at_end(c);
+    }
+    vcs_placed answer = vcs_place(LENT, c->set, c->entry, c->part, c->lane);
+    if (!judge(PLACE, &answer, sizeof answer)) {
+        return 0;
+    }
+    address a = address_of(c->set, answer.offset);
+    if (answer.page != a.page || answer.byte != a.byte) {
+        fail("place", "another page or byte");
+    }
+    vcs_owned owned = vcs_owner_at(LENT, c->set, a.page, a.byte, answer.bit);
+    int is_told = owned.refusal == 0 && owned.gap == 0 && owned.entry == c->entry && owned.part == c->part &&
+                  owned.lane == c->lane;
+    if (a.page == 0 ? owned.refusal != 10 : !is_told) {
+        fail("owner at", "another field than the one placed there");
+    }
+    placed[c->set][stand_of(c->set, answer.offset)]++;
+    return 1;
+}
+
 /* The reader's step has its own answer, and no limit of entries: where the load has refused a 17th, it is often made. */
 static void take(void)
 {
@@ -851,8 +1034,9 @@ static void call_one(size_t export)
     case APPLY: is_accepted = JUDGE(vcs_answer, vcs_apply(LENT, LENT_BANK, c.set, c.lanes)); break;
     case LOAD: is_accepted = JUDGE(vcs_loaded, vcs_load(LENT)); break;
     case ENTRY: is_accepted = JUDGE(vcs_located, vcs_entry(LENT, c.entry)); break;
-    case PLACE: is_accepted = JUDGE(vcs_placed, vcs_place(LENT, c.set, c.entry, c.part, c.lane)); break;
+    case PLACE: is_accepted = place(&c); break;
     case OWNER: is_accepted = owner(&c); break;
+    case OWNER_AT: is_accepted = owner_at(&c); break;
     case FRESH: is_accepted = JUDGE(vcs_loaded, vcs_fresh(LENT, LENT_BANK)); break;
     case WEIGHT: is_accepted = JUDGE(vcs_answer, vcs_weight(LENT, LENT_BANK, c.entry, c.lane)); break;
     case TAKE: take(); break;
@@ -936,6 +1120,25 @@ static void demand_searches(void)
     }
 }
 
+static void demand_addresses(void)
+{
+    for (size_t set = 0; set < 3; set++) {
+        for (int i = 0; i < STANDS; i++) {
+            int is_told = i == PAST_TABLE || (told[set][0][i] > 0 && told[set][1][i] > 0);
+            if (placed[set][i] == 0 || !is_told) {
+                printf("hardening: no field placed, or no field or no gap told, in set %zu %s\n", set, STAND_NAMES[i]);
+                exit(1);
+            }
+        }
+        for (int i = 0; i < AWAYS; i++) {
+            if (away[set][i] == 0) {
+                printf("hardening: set %zu has refused no address %s\n", set, AWAY_NAMES[i]);
+                exit(1);
+            }
+        }
+    }
+}
+
 /* 6 is a refusal of RW entries; the first RO entry isn't a 17th. */
 static void demand_pieces(void)
 {
@@ -976,6 +1179,7 @@ int main(int words, char **word)
     demand_ids();
     demand_limit();
     demand_searches();
+    demand_addresses();
     demand_pieces();
     printf("hardening: %zu calls, seed %zu\n", made, seed);
     return 0;

@@ -1,5 +1,5 @@
 /* Checks the C interface: the layout that include/vcs.h promises, and answers worked out by hand from document 01 and
-   notes 1, 7, 8 and 12 of document 02.
+   notes 1, 2, 7, 8 and 12 of document 02.
 
    gcc -std=c11 -Wall -Wextra -Werror -I include tests/interface.c target/staticlib/libvcs.a -o target/interface */
 #include <stdio.h>
@@ -37,9 +37,11 @@ AT(vcs_located, string, 2);
 AT(vcs_located, start, 3);
 AT(vcs_located, length, 4);
 AT(vcs_located, offset, 5);
-ANSWER(vcs_placed, 4);
+ANSWER(vcs_placed, 6);
 AT(vcs_placed, offset, 2);
-AT(vcs_placed, bit, 3);
+AT(vcs_placed, page, 3);
+AT(vcs_placed, byte, 4);
+AT(vcs_placed, bit, 5);
 ANSWER(vcs_owned, 7);
 AT(vcs_owned, gap, 2);
 AT(vcs_owned, entry, 3);
@@ -97,6 +99,9 @@ _Static_assert(_Generic(&vcs_place,
 _Static_assert(_Generic(&vcs_owner,
     vcs_owned (*)(size_t, const uint8_t *, size_t, const uint8_t *, size_t, size_t, size_t, size_t): 1,
     default: 0), "vcs_owner");
+_Static_assert(_Generic(&vcs_owner_at,
+    vcs_owned (*)(size_t, const uint8_t *, size_t, const uint8_t *, size_t, size_t, size_t, size_t, size_t): 1,
+    default: 0), "vcs_owner_at");
 _Static_assert(_Generic(&vcs_fresh,
     vcs_loaded (*)(size_t, const uint8_t *, size_t, const uint8_t *, size_t, uint8_t *, size_t): 1,
     default: 0), "vcs_fresh");
@@ -283,6 +288,12 @@ static void place(const char *name, map m, size_t set, size_t number, size_t par
 static void owner(const char *name, map m, size_t set, size_t offset, size_t bit, const size_t expected[7])
 {
     vcs_owned answer = vcs_owner(LENT(m), set, offset, bit);
+    check(name, m, &answer, sizeof answer, expected);
+}
+
+static void owner_at(const char *name, map m, size_t set, size_t page, size_t byte, size_t bit, const size_t expected[7])
+{
+    vcs_owned answer = vcs_owner_at(LENT(m), set, page, byte, bit);
     check(name, m, &answer, sizeof answer, expected);
 }
 
@@ -474,15 +485,18 @@ static void entries(void)
     entry("no string", (map){1, NONE, NONE}, 0, REFUSED(10, 0));
 }
 
+/* The answer of place. */
+#define PLACED(offset, page, byte, bit) NUMBERS(0, 0, offset, page, byte, bit)
+
 static void places(void)
 {
     map m = THE_MAP;
-    place("02h, lane 1, set 0", m, 0, 0, 0, 1, NUMBERS(0, 0, 0, 0));
-    place("05h, lane 8, set 1", m, 1, 2, 0, 8, NUMBERS(0, 0, 3, 7));
-    place("05h, lane 4, active", m, 2, 2, 0, 4, NUMBERS(0, 0, 3, 3));
-    place("11h, upper eye, lane 8", m, 2, 3, 0, 8, NUMBERS(0, 0, 11, 0));
-    place("11h, lower eye, lane 1", m, 2, 3, 1, 1, NUMBERS(0, 0, 12, 0));
-    place("12h, lane 8", m, 2, 4, 0, 8, NUMBERS(0, 0, 27, 0));
+    place("02h, lane 1, set 0", m, 0, 0, 0, 1, PLACED(0, 0x10, 153, 0));
+    place("05h, lane 8, set 1", m, 1, 2, 0, 8, PLACED(3, 0x10, 191, 7));
+    place("05h, lane 4, active", m, 2, 2, 0, 4, PLACED(3, 0x11, 217, 3));
+    place("11h, upper eye, lane 8", m, 2, 3, 0, 8, PLACED(11, 0x11, 225, 0));
+    place("11h, lower eye, lane 1", m, 2, 3, 1, 1, PLACED(12, 0x11, 226, 0));
+    place("12h, lane 8", m, 2, 4, 0, 8, PLACED(27, 0x19, 158, 0));
     place("11h in set 0", m, 0, 3, 0, 1, REFUSED(11, 0));
     place("12h in set 1", m, 1, 4, 0, 8, REFUSED(11, 0));
     place("10 before 11: part 2", m, 0, 3, 2, 1, REFUSED(10, 0));
@@ -603,6 +617,200 @@ static void searches(void)
     refused_behind("7, 255 bytes more", BYTES(0x00, 0x04, 0x00, 0xFF), 7);
 }
 
+/* Fields about the ends of the pages: 00h that reserves `before` bytes, 0Fh, 10h. */
+#define THE_BYTES(before) \
+    {4, BYTES(0x00, 0x04, 0x00, before, 0x0F, 0x05, 0x0F, 0x08, 0x00, 0x10, 0x05, 0x0F, 0x08, 0x00), NONE}
+
+static void addresses(void)
+{
+    map m = THE_BYTES(15);
+    load("0Fh at 15, 10h at 23", m, NUMBERS(0, 0, 3, 0, 31, 31));
+    place("set 0, 0Fh, lane 1", m, 0, 1, 0, 1, PLACED(15, 0x10, 168, 0));
+    place("set 0, offset 21", m, 0, 1, 0, 7, PLACED(21, 0x10, 174, 0));
+    place("set 0, the page's last byte", m, 0, 1, 0, 8, PLACED(22, 0x10, 175, 0));
+    place("set 0, the overflow page's first byte", m, 0, 2, 0, 1, PLACED(23, 0x18, 144, 0));
+    place("set 1, offset 21", m, 1, 1, 0, 7, PLACED(21, 0x10, 209, 0));
+    place("set 1, the page's last byte", m, 1, 1, 0, 8, PLACED(22, 0x10, 210, 0));
+    place("set 1, the overflow page's first byte", m, 1, 2, 0, 1, PLACED(23, 0x18, 200, 0));
+    place("active, the page's last byte", m, 2, 1, 0, 6, PLACED(20, 0x11, 234, 0));
+    place("active, the overflow page's first byte", m, 2, 1, 0, 7, PLACED(21, 0x19, 152, 0));
+    place("active, offset 22", m, 2, 1, 0, 8, PLACED(22, 0x19, 153, 0));
+    place("active, offset 23", m, 2, 2, 0, 1, PLACED(23, 0x19, 154, 0));
+    m = (map)THE_BYTES(70);
+    load("0Fh at 70, 10h at 78", m, NUMBERS(0, 0, 3, 0, 86, 86));
+    place("set 0, offset 76", m, 0, 1, 0, 7, PLACED(76, 0x18, 197, 0));
+    place("set 0, offset 77", m, 0, 1, 0, 8, PLACED(77, 0x18, 198, 0));
+    place("set 0, the last address", m, 0, 2, 0, 1, PLACED(78, 0x18, 199, 0));
+    place("set 0, none", m, 0, 2, 0, 2, PLACED(79, 0, 0, 0));
+    place("set 1, offset 77", m, 1, 1, 0, 8, PLACED(77, 0x18, 254, 0));
+    place("set 1, the last address", m, 1, 2, 0, 1, PLACED(78, 0x18, 255, 0));
+    place("set 1, none", m, 1, 2, 0, 2, PLACED(79, 0, 0, 0));
+    place("active, offset 75", m, 2, 1, 0, 6, PLACED(75, 0x19, 206, 0));
+    place("active, the last address", m, 2, 1, 0, 7, PLACED(76, 0x19, 207, 0));
+    place("active, none", m, 2, 1, 0, 8, PLACED(77, 0, 0, 0));
+    place("active, offset 78", m, 2, 2, 0, 1, PLACED(78, 0, 0, 0));
+    place("active, offset 85", m, 2, 2, 0, 8, PLACED(85, 0, 0, 0));
+
+    m = (map){4, BYTES(0x00, 0x04, 0x00, 0x15, 0x07, 0x08, 0x0F, 0x08, 0x00, 0x00, 0xFF, 0xFF), NONE};
+    place("07h on both pages, lane 3", m, 0, 1, 0, 3, PLACED(22, 0x10, 175, 0));
+    place("07h on both pages, lane 4", m, 0, 1, 0, 4, PLACED(22, 0x10, 175, 4));
+    place("07h on both pages, lane 5", m, 0, 1, 0, 5, PLACED(23, 0x18, 144, 0));
+    place("07h on both pages, lane 6", m, 1, 1, 0, 6, PLACED(23, 0x18, 200, 4));
+    place("07h on both pages, post-cursor", m, 1, 1, 1, 8, PLACED(28, 0x18, 205, 4));
+    place("07h on the overflow page", m, 2, 1, 0, 2, PLACED(21, 0x19, 152, 4));
+    m = (map){4, BYTES(0x00, 0x04, 0x00, 0xF0), BYTES(0x11, 0x05, 0x0F, 0x10, 0x00)};
+    place("offset 240", m, 2, 1, 0, 1, PLACED(240, 0, 0, 0));
+    place("offset 255", m, 2, 1, 1, 8, PLACED(255, 0, 0, 0));
+    place("offset 255 in set 0", m, 0, 1, 1, 8, REFUSED(11, 0));
+}
+
+/* Owner by address: about the ends of the pages, and at the addresses of other sets. */
+static void owners_at(void)
+{
+    map m = THE_BYTES(15);
+    owner_at("set 0, the page's first byte", m, 0, 0x10, 153, 0, GAP(1));
+    owner_at("set 0, the byte before", m, 0, 0x10, 152, 0, REFUSED(10, 0));
+    owner_at("set 0, the page's last byte", m, 0, 0x10, 175, 7, FIELD(1, 0, 8, 2));
+    owner_at("set 0, the byte behind", m, 0, 0x10, 176, 0, REFUSED(10, 0));
+    owner_at("set 0, the overflow page's first byte", m, 0, 0x18, 144, 0, FIELD(2, 0, 1, 3));
+    owner_at("set 0, the byte before it", m, 0, 0x18, 143, 0, REFUSED(10, 0));
+    owner_at("set 0, its last byte", m, 0, 0x18, 151, 7, FIELD(2, 0, 8, 3));
+    owner_at("set 0, its length", m, 0, 0x18, 152, 0, REFUSED(10, 0));
+    owner_at("set 0, past its length", m, 0, 0x18, 199, 0, REFUSED(10, 0));
+    owner_at("set 1, the page's first byte", m, 1, 0x10, 188, 7, GAP(1));
+    owner_at("set 1, the byte before", m, 1, 0x10, 187, 0, REFUSED(10, 0));
+    owner_at("set 1, the page's last byte", m, 1, 0x10, 210, 0, FIELD(1, 0, 8, 2));
+    owner_at("set 1, the byte behind", m, 1, 0x10, 211, 0, REFUSED(10, 0));
+    owner_at("set 1, the overflow page's first byte", m, 1, 0x18, 200, 7, FIELD(2, 0, 1, 3));
+    owner_at("set 1, its length", m, 1, 0x18, 208, 0, REFUSED(10, 0));
+    owner_at("active, the page's first byte", m, 2, 0x11, 214, 0, GAP(1));
+    owner_at("active, the byte before", m, 2, 0x11, 213, 0, REFUSED(10, 0));
+    owner_at("active, the page's last byte", m, 2, 0x11, 234, 3, FIELD(1, 0, 6, 2));
+    owner_at("active, the byte behind", m, 2, 0x11, 235, 0, REFUSED(10, 0));
+    owner_at("active, the overflow page's first byte", m, 2, 0x19, 152, 0, FIELD(1, 0, 7, 2));
+    owner_at("active, the byte before it", m, 2, 0x19, 151, 0, REFUSED(10, 0));
+    owner_at("active, offset 22", m, 2, 0x19, 153, 0, FIELD(1, 0, 8, 2));
+    owner_at("active, its last byte", m, 2, 0x19, 161, 0, FIELD(2, 0, 8, 3));
+    owner_at("active, its length", m, 2, 0x19, 162, 0, REFUSED(10, 0));
+    owner_at("set 0 at set 1's page", m, 0, 0x10, 188, 0, REFUSED(10, 0));
+    owner_at("set 0 at set 1's overflow page", m, 0, 0x18, 200, 0, REFUSED(10, 0));
+    owner_at("set 1 at set 0's page", m, 1, 0x10, 153, 0, REFUSED(10, 0));
+    owner_at("set 1 at set 0's overflow page", m, 1, 0x18, 144, 0, REFUSED(10, 0));
+    owner_at("set 0 at the active page", m, 0, 0x11, 214, 0, REFUSED(10, 0));
+    owner_at("set 1 at the active overflow page", m, 1, 0x19, 152, 0, REFUSED(10, 0));
+    owner_at("active at set 0's page", m, 2, 0x10, 153, 0, REFUSED(10, 0));
+    owner_at("active at set 1's overflow page", m, 2, 0x18, 200, 0, REFUSED(10, 0));
+}
+
+/* About the last addresses, and at none of any set. */
+static void owners_past(void)
+{
+    map m = THE_BYTES(70);
+    owner_at("set 0, offset 22, in 70 bytes", m, 0, 0x10, 175, 0, GAP(1));
+    owner_at("set 0, offset 23, in 70 bytes", m, 0, 0x18, 144, 0, GAP(1));
+    owner_at("set 0, offset 77", m, 0, 0x18, 198, 0, FIELD(1, 0, 8, 2));
+    owner_at("set 0, the last address", m, 0, 0x18, 199, 0, FIELD(2, 0, 1, 3));
+    owner_at("set 0, behind it", m, 0, 0x18, 200, 0, REFUSED(10, 0));
+    owner_at("set 1, the last address", m, 1, 0x18, 255, 7, FIELD(2, 0, 1, 3));
+    owner_at("set 1, byte 256", m, 1, 0x18, 256, 0, REFUSED(10, 0));
+    owner_at("set 1, before its overflow page", m, 1, 0x18, 199, 0, REFUSED(10, 0));
+    owner_at("active, the last address", m, 2, 0x19, 207, 7, FIELD(1, 0, 7, 2));
+    owner_at("active, behind it", m, 2, 0x19, 208, 0, REFUSED(10, 0));
+    for (size_t set = 0; set <= 3; set++) {
+        owner_at("page 0, byte 0", m, set, 0, 0, 0, REFUSED(10, 0));
+        owner_at("page 0, byte 153", m, set, 0, 153, 0, REFUSED(10, 0));
+        owner_at("page 10h, byte 0", m, set, 0x10, 0, 0, REFUSED(10, 0));
+        owner_at("page 12h", m, set, 0x12, 214, 0, REFUSED(10, 0));
+        owner_at("page 17h", m, set, 0x17, 160, 0, REFUSED(10, 0));
+        owner_at("page 1Ah", m, set, 0x1A, 160, 0, REFUSED(10, 0));
+        owner_at("page 110h", m, set, 0x110, 160, 0, REFUSED(10, 0));
+        owner_at("page 2^32 + 10h", m, set, ((size_t)1 << 32) + 0x10, 160, 0, REFUSED(10, 0));
+        owner_at("byte 256 + 160", m, set, 0x10, 256 + 160, 0, REFUSED(10, 0));
+        owner_at("byte 2^61 + 160", m, set, 0x18, ((size_t)1 << 61) + 160, 0, REFUSED(10, 0));
+        owner_at("the largest page", m, set, SIZE_MAX, 160, 0, REFUSED(10, 0));
+        owner_at("the largest byte", m, set, 0x18, SIZE_MAX, 0, REFUSED(10, 0));
+    }
+    owner_at("bit 8", m, 0, 0x10, 153, 8, REFUSED(10, 0));
+    owner_at("bit 2^32", m, 2, 0x11, 214, (size_t)1 << 32, REFUSED(10, 0));
+    owner_at("set 3 at set 0's page", m, 3, 0x10, 153, 0, REFUSED(10, 0));
+    owner_at("set 2^32 at set 0's page", m, (size_t)1 << 32, 0x10, 153, 0, REFUSED(10, 0));
+    owner_at("the largest numbers", m, SIZE_MAX, SIZE_MAX, SIZE_MAX, SIZE_MAX, REFUSED(10, 0));
+    owner_at("no string", (map){1, NONE, NONE}, 2, 0x11, 214, 0, REFUSED(10, 0));
+}
+
+/* In several entries, past the staged length, and after other refusals. */
+static void owners_in_order(void)
+{
+    map m = THE_MAP;
+    owner_at("05h, lane 8, set 1", m, 1, 0x10, 191, 7, FIELD(2, 0, 8, 3));
+    owner_at("the staged length, set 0", m, 0, 0x10, 157, 0, REFUSED(10, 0));
+    owner_at("the staged length, active", m, 2, 0x11, 218, 0, FIELD(3, 0, 1, 4));
+    owner_at("12h, lane 8", m, 2, 0x19, 158, 0, FIELD(4, 0, 8, 5));
+    owner_at("surplus of 12h", m, 2, 0x19, 159, 7, GAP(5));
+    owner_at("the active length", m, 2, 0x19, 160, 0, REFUSED(10, 0));
+    m.count = 0;
+    owner_at("9 before 10", m, 3, 0, 0, 8, REFUSED(9, 0));
+    m.count = 4;
+    m.ro_length = 6;
+    owner_at("a bad RO string refuses an RW byte", m, 0, 0x10, 153, 0, REFUSED(1, 4));
+    owner_at("1 before 10", m, 0, 0, 0, 0, REFUSED(1, 4));
+    m = (map)THE_EMPTY;
+    owner_at("three of no byte before 02h", m, 0, 0x10, 153, 7, FIELD(3, 0, 8, 4));
+    owner_at("ten, and FFh", m, 2, 0x11, 232, 0, GAP(15));
+}
+
+/* A set of so many bytes, one 00h entry: by set, its last byte and the next, which is refused with or without an address. */
+static void ends(void)
+{
+    static const struct {
+        uint8_t length;
+        size_t at[3][2][2];
+    } sets[] = {
+        {20, {{{0x10, 172}, {0x10, 173}}, {{0x10, 207}, {0x10, 208}}, {{0x11, 233}, {0x11, 234}}}},
+        {21, {{{0x10, 173}, {0x10, 174}}, {{0x10, 208}, {0x10, 209}}, {{0x11, 234}, {0x19, 152}}}},
+        {22, {{{0x10, 174}, {0x10, 175}}, {{0x10, 209}, {0x10, 210}}, {{0x19, 152}, {0x19, 153}}}},
+        {23, {{{0x10, 175}, {0x18, 144}}, {{0x10, 210}, {0x18, 200}}, {{0x19, 153}, {0x19, 154}}}},
+        {24, {{{0x18, 144}, {0x18, 145}}, {{0x18, 200}, {0x18, 201}}, {{0x19, 154}, {0x19, 155}}}},
+        {76, {{{0x18, 196}, {0x18, 197}}, {{0x18, 252}, {0x18, 253}}, {{0x19, 206}, {0x19, 207}}}},
+        {77, {{{0x18, 197}, {0x18, 198}}, {{0x18, 253}, {0x18, 254}}, {{0x19, 207}, {0, 0}}}},
+        {78, {{{0x18, 198}, {0x18, 199}}, {{0x18, 254}, {0x18, 255}}, {{0, 0}, {0, 0}}}},
+        {79, {{{0x18, 199}, {0, 0}}, {{0x18, 255}, {0, 0}}, {{0, 0}, {0, 0}}}},
+        {80, {{{0, 0}, {0, 0}}, {{0, 0}, {0, 0}}, {{0, 0}, {0, 0}}}},
+    };
+    for (size_t i = 0; i < sizeof sets / sizeof sets[0]; i++) {
+        map m = {4, BYTES(0x00, 0x04, 0x00, sets[i].length), NONE};
+        for (size_t set = 0; set <= 2; set++) {
+            const size_t *last = sets[i].at[set][0], *next = sets[i].at[set][1];
+            owner_at("a set's last byte", m, set, last[0], last[1], 7, last[0] == 0 ? REFUSED(10, 0) : GAP(1));
+            owner_at("the byte behind a set", m, set, next[0], next[1], 0, REFUSED(10, 0));
+        }
+    }
+}
+
+/* Owner at the address that place gives tells the field, and read gives its number. Page 0, byte 0 is no address. */
+static void round_trip(map m, size_t set, size_t number, size_t lane)
+{
+    uint8_t stored = (uint8_t)(64 * set + 16 * number + lane);
+    vcs_placed placed = vcs_place(LENT(m), set, number, 0, lane);
+    put(VCS_SET_START(set) + placed.offset, stored);
+    if (placed.page == 0) {
+        owner_at("without an address", m, set, placed.page, placed.byte, placed.bit, REFUSED(10, 0));
+        return;
+    }
+    vcs_owned told = vcs_owner_at(LENT(m), set, placed.page, placed.byte, placed.bit);
+    owner_at("at its address", m, set, placed.page, placed.byte, placed.bit, FIELD(number, 0, lane, number + 1));
+    fetch("read of the field told", m, set, told.entry, told.part, told.lane, NUMBER(stored));
+}
+
+static void round_trips(void)
+{
+    fill(0x00);
+    for (size_t i = 0; i < 48; i++) {
+        round_trip((map)THE_BYTES(15), i / 16, 1 + i / 8 % 2, 1 + i % 8);
+        round_trip((map)THE_BYTES(70), i / 16, 1 + i / 8 % 2, 1 + i % 8);
+    }
+}
+
 /* 02h, 03h at offset 1, 04h at 3 with mask 1FFFh, 00h that reserves 2, 07h at 9 with mask 0FFFh. */
 #define THE_SETTINGS \
     {4, \
@@ -613,10 +821,10 @@ static void searches(void)
 static void settings(void)
 {
     map m = THE_SETTINGS;
-    place("P2", m, 0, 1, 0, 5, NUMBERS(0, 0, 2, 0));
-    place("P3", m, 1, 2, 0, 2, NUMBERS(0, 0, 3, 4));
-    place("P4", m, 2, 2, 0, 7, NUMBERS(0, 0, 6, 0));
-    place("P5", m, 0, 4, 1, 1, NUMBERS(0, 0, 13, 0));
+    place("P2", m, 0, 1, 0, 5, PLACED(2, 0x10, 155, 0));
+    place("P3", m, 1, 2, 0, 2, PLACED(3, 0x10, 191, 4));
+    place("P4", m, 2, 2, 0, 7, PLACED(6, 0x11, 220, 0));
+    place("P5", m, 0, 4, 1, 1, PLACED(13, 0x10, 166, 0));
     owner("P2", m, 0, 2, 0, FIELD(1, 0, 5, 2));
     owner("P3", m, 1, 3, 4, FIELD(2, 0, 2, 3));
     owner("P4", m, 2, 6, 0, FIELD(2, 0, 7, 3));
@@ -1006,10 +1214,10 @@ static void numbers(void)
     fill(0xFF);
     memset(wanted, 0, VCS_BANK_SIZE);
     fresh("the numbers' map", m, NUMBERS(0, 0, 7, 0, 38, 38));
-    place("0Dh, lane 3", m, 0, 1, 0, 3, NUMBERS(0, 0, 3, 0));
+    place("0Dh, lane 3", m, 0, 1, 0, 3, PLACED(3, 0x10, 156, 0));
     owner("0Dh, lane 3", m, 2, 3, 7, FIELD(1, 0, 3, 2));
-    place("0Eh, lane 8", m, 1, 5, 0, 8, NUMBERS(0, 0, 36, 4));
-    place("0Bh, lane 8", m, 1, 6, 0, 8, NUMBERS(0, 0, 37, 7));
+    place("0Eh, lane 8", m, 1, 5, 0, 8, PLACED(36, 0x18, 213, 4));
+    place("0Bh, lane 8", m, 1, 6, 0, 8, PLACED(37, 0x18, 214, 7));
     place("part 1 of 0Dh", m, 0, 1, 1, 3, REFUSED(10, 0));
 
     wanted[3] = 0xF2;
@@ -1267,9 +1475,10 @@ static void full_strings(void)
     entry("entry 16, the first of RO", m, 16, NUMBERS(0, 0, 1, 0, 7, 16));
     entry("entry 31, the last of RO", m, 31, NUMBERS(0, 0, 1, 105, 7, 136));
     entry("entry 32", m, 32, REFUSED(10, 0));
-    place("entry 15, lane 8", m, 1, 15, 0, 8, NUMBERS(0, 0, 15, 7));
-    place("entry 31, lane 8", m, 2, 31, 0, 8, NUMBERS(0, 0, 143, 0));
+    place("entry 15, lane 8", m, 1, 15, 0, 8, PLACED(15, 0x10, 203, 7));
+    place("entry 31, lane 8, without an address", m, 2, 31, 0, 8, PLACED(143, 0, 0, 0));
     owner("entry 15, lane 8", m, 0, 15, 7, FIELD(15, 0, 8, 16));
+    owner_at("entry 15, lane 8", m, 1, 0x10, 203, 7, FIELD(15, 0, 8, 16));
     owner("entry 31, lane 8", m, 2, 143, 0, FIELD(31, 0, 8, 32));
     for (size_t i = 0; i < VCS_ENTRY_LIMIT; i++) {
         owner_in_all("an RW entry, lane 2", m, i, 1, FIELD(i, 0, 2, i + 1));
@@ -1314,6 +1523,8 @@ static void refused_by_all(const char *name, map m, const size_t expected[7])
     entry(given("entry", name), m, 0, expected);
     place(given("place", name), m, 0, 0, 0, 1, expected);
     owner(given("owner", name), m, 0, 0, 0, expected);
+    owner_at(given("owner at", name), m, 0, 0x10, 153, 0, expected);
+    owner_at(given("owner at page 0", name), m, 2, 0, 0, 0, expected);
     fresh(given("fresh", name), m, expected);
     choose(given("select", name), m, 0, 1, 1, expected);
     store(given("write", name), m, 0, 0, 0, 1, 0, expected);
@@ -1617,6 +1828,12 @@ int main(void)
     places();
     owners();
     searches();
+    addresses();
+    owners_at();
+    owners_past();
+    owners_in_order();
+    ends();
+    round_trips();
     settings();
     fresh_banks();
     selects();

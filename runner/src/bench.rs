@@ -8,14 +8,15 @@ use std::time::Instant;
 
 use crate::any_map;
 use crate::calls::bank::{APPLY, BYTE_READ, BYTE_WRITE, FRESH, PERFORM, PUBLISH, READ, SELECT, WEIGHT, WRITE};
-use crate::calls::{entry, load, owner, place, resume, take};
+use crate::calls::{entry, load, owner, owner_at, place, resume, take};
 use crate::case::Case;
-use crate::engine::{self, app_sels, FlatCall, State, BANK_SIZE};
+use crate::engine::{self, app_sels, FlatCall, Placed, State, BANK_SIZE};
 use crate::fixed::hex;
 use crate::peer;
 use crate::random::Random;
 use crate::report::Answer;
 use crate::strings::{Flat, RO, RW};
+use crate::table_4_1;
 use crate::tally::Row;
 use crate::valid;
 
@@ -81,6 +82,8 @@ const MAPS: [Named; 3] = [
 #[derive(Clone, Copy, Debug)]
 struct Args {
     call: FlatCall,
+    /// Page and byte.
+    address: [usize; 2],
     bit: usize,
     position: usize,
     from: [usize; 2],
@@ -90,11 +93,11 @@ struct Args {
 impl Args {
     /// Arguments that name a field of this entry in a set, its byte there and a value.
     fn naming(case: &Case, set: usize, (entry, value): (usize, i64)) -> Args {
-        let offset = engine::place(case.count, case.rw, case.ro, set, entry, 0, LANE).offset;
+        let Placed { offset, page, byte, .. } = engine::place(case.count, case.rw, case.ro, set, entry, 0, LANE);
         let position = engine::entry(case.count, case.rw, case.ro, entry).start;
         let call =
             FlatCall { kind: 1, set, entry, part: 0, lane: LANE, offset, app: APP, value, byte: 0x21, lanes: 0xFF };
-        Args { call, bit: 4, position, from: [0, 0], state: State::default() }
+        Args { call, address: [page, byte], bit: 4, position, from: [0, 0], state: State::default() }
     }
 
     fn lent<'a>(&self, map: &'a Flat) -> Case<'a> {
@@ -232,7 +235,8 @@ fn varied_args(random: &Random, case: &Case) -> Args {
     };
     let (bit, position) = (random.about(8), random.about(case.rw.len() + 1));
     let state = if random.once_in(4) { State::default() } else { resume::any_state(random) };
-    Args { call, bit, position, from: [0, 0], state }
+    let address = table_4_1::about(random, call.set, call.offset);
+    Args { call, address, bit, position, from: [0, 0], state }
 }
 
 /// A call's times: for each map, engine and peer.
@@ -359,7 +363,8 @@ pub fn run() {
 }
 
 /// Every call once; then entry, owner and read for the first, the middle and the last of all entries, which have fields, and a
-/// load that was broken off there.
+/// load that was broken off there. Owner by address is asked where the byte has one on every map: in the staged set, in the
+/// first and in the middle entry.
 #[rustfmt::skip]
 fn rows(bench: &mut Bench) {
     let staged = |subject: &Subject| subject.staged;
@@ -371,6 +376,7 @@ fn rows(bench: &mut Bench) {
     row!(bench, "entry", entry::CALL, active, |_, a| entry(a.entry));
     row!(bench, "place", place::CALL, active, |_, a| place(a.set, a.entry, a.part, a.lane));
     row!(bench, "owner", owner::CALL, active, |_, a| owner(a.set, a.offset, a.bit));
+    row!(bench, "owner at", owner_at::CALL, staged, |_, a| owner_at(a.set, a.address[0], a.address[1], a.bit));
     row!(bench, "fresh", FRESH, staged, |bank, _| fresh(bank));
     row!(bench, "select", SELECT, staged, |bank, a| select(bank, a.set, a.lane, a.app));
     row!(bench, "write", WRITE, staged, |bank, a| write(bank, a.set, a.entry, a.part, a.lane, a.value));
@@ -397,6 +403,8 @@ fn rows(bench: &mut Bench) {
     row!(bench, "owner, first entry", owner::CALL, first, |_, a| owner(a.set, a.offset, a.bit));
     row!(bench, "owner, middle entry", owner::CALL, middle, |_, a| owner(a.set, a.offset, a.bit));
     row!(bench, "owner, last entry", owner::CALL, last, |_, a| owner(a.set, a.offset, a.bit));
+    row!(bench, "owner at, first", owner_at::CALL, first, |_, a| owner_at(a.set, a.address[0], a.address[1], a.bit));
+    row!(bench, "owner at, middle", owner_at::CALL, middle, |_, a| owner_at(a.set, a.address[0], a.address[1], a.bit));
     row!(bench, "read, first entry", READ, first, |bank, a| read(bank, a.set, a.entry, a.part, a.lane));
     row!(bench, "read, middle entry", READ, middle, |bank, a| read(bank, a.set, a.entry, a.part, a.lane));
     row!(bench, "read, last entry", READ, last, |bank, a| read(bank, a.set, a.entry, a.part, a.lane));

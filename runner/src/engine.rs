@@ -38,6 +38,15 @@ impl Loaded {
     pub fn entries(&self) -> usize {
         self.rw_count + self.ro_count + self.at
     }
+
+    /// The length of a staged set, else of the active set.
+    pub fn length(&self, set: usize) -> usize {
+        if set < 2 {
+            self.staged_length
+        } else {
+            self.active_length
+        }
+    }
 }
 
 macro_rules! refused {

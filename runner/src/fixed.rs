@@ -10,7 +10,7 @@ use crate::strings::Flat;
 pub const MAP_INPUT: &[u8] = include_bytes!("../../examples/document-01.map");
 pub const MAP_OUTPUT: &[u8] = include_bytes!("../../examples/document-01.out");
 const APPENDIX_A: &[u8] = include_bytes!("../../examples/appendix-a.rw");
-const APPENDIX_B: [&[u8]; 2] =
+pub const APPENDIX_B: [&[u8]; 2] =
     [include_bytes!("../../examples/appendix-b.rw"), include_bytes!("../../examples/appendix-b.ro")];
 const LINEAR: [&[u8]; 2] = [include_bytes!("../../examples/linear.rw"), include_bytes!("../../examples/linear.ro")];
 

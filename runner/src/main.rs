@@ -1,5 +1,6 @@
 //! Compares the engine with the second program (no word), or times it against the plain peer (`bench`).
 
+mod addresses;
 mod bench;
 mod broken_off;
 mod calls;
@@ -18,6 +19,7 @@ mod report;
 mod shape;
 mod strings;
 mod sweep;
+mod table_4_1;
 mod tally;
 mod valid;
 
@@ -29,10 +31,12 @@ use report::Report;
 use strings::{Flat, RW};
 
 /// Generated maps, beside the fixed ones and the sweep.
-const MAPS: u64 = 225_000;
+const MAPS: u64 = 250_000;
 
-/// Accepted maps, and as many damaged ones, on which every field and bit is asked for.
+/// Accepted maps, and as many damaged ones, on which every field, bit and address is asked for; and more accepted ones, whose
+/// sets end about a border of Table 4-1.
 const WHOLE_MAPS: u64 = 300;
+const WHOLE_ADDRESSED: u64 = 100;
 
 fn main() -> ExitCode {
     let words: Vec<String> = std::env::args().skip(1).collect();
@@ -62,9 +66,13 @@ fn compare() -> bool {
     fixed::compare(&mut report);
     broken_off::compare(&mut report);
     owners::compare(&mut report);
+    addresses::compare(&mut report);
     for seed in 0..WHOLE_MAPS {
         calls::compare_all(&mut report, &valid::valid(&Random::new(seed)).flat().case(), &[]);
         calls::compare_all(&mut report, &damaged::damaged(&Random::new(seed)).case(), &[]);
+    }
+    for seed in 0..WHOLE_ADDRESSED {
+        calls::compare_all(&mut report, &valid::addressed(&Random::new(seed)).flat().case(), &[]);
     }
     let random = Random::new(0);
     sweep::sweep(|map| calls::compare(&mut report, &map.case(), &random));
@@ -88,12 +96,13 @@ fn compare() -> bool {
 
 /// A map from one of the generators.
 fn any_map(random: &Random) -> Flat {
-    match random.below(18) {
+    match random.below(20) {
         0..=4 => valid::valid(random).flat(),
         5..=10 => damaged::damaged(random),
         11 | 12 => damaged::changed(random),
         13 | 14 => damaged::bordering(random),
         15 | 16 => damaged::crowded(random),
+        17 | 18 => valid::addressed(random).flat(),
         _ => damaged::noise(random),
     }
 }

@@ -23,15 +23,15 @@ struct Known {
     bits: Vec<([usize; 3], Owned)>,
 }
 
-fn field(entry: usize, part: usize, lane: usize, looked_at: usize) -> Owned {
+pub fn field(entry: usize, part: usize, lane: usize, looked_at: usize) -> Owned {
     Owned { refusal: 0, at: 0, gap: 0, entry, part, lane, looked_at }
 }
 
-fn gap(looked_at: usize) -> Owned {
+pub fn gap(looked_at: usize) -> Owned {
     Owned { gap: 1, looked_at, ..Owned::default() }
 }
 
-fn refused(number: usize, at: usize) -> Owned {
+pub fn refused(number: usize, at: usize) -> Owned {
     Owned::refused(number, at)
 }
 

@@ -3,7 +3,7 @@
 use std::cell::Cell;
 
 /// Numbers that leave nothing in their low 8, 16, 32 or 60 bits.
-const FAR: [usize; 6] = [1 << 8, 1 << 16, 1 << 32, 1 << 60, 1 << 61, 1 << 63];
+pub const FAR: [usize; 6] = [1 << 8, 1 << 16, 1 << 32, 1 << 60, 1 << 61, 1 << 63];
 
 pub struct Random(Cell<u64>);
 

@@ -20,13 +20,15 @@ pub struct Strings {
     /// The IDs of the table that are drawn, by string.
     pub table: [&'static [u8]; 2],
     pub entries: [Vec<Vec<u8>>; 2],
+    /// The sum of MemoryLengths that entries are added within.
+    pub largest: usize,
 }
 
 impl Strings {
     /// No entry yet. Two maps in five are to have no ID of note 1.
     pub fn new(random: &Random, count: usize) -> Strings {
         let table = random.pick(&[BASE_TABLE, BASE_TABLE, TABLE, TABLE, LINEAR_TABLE]);
-        Strings { count, table, entries: [Vec::new(), Vec::new()] }
+        Strings { count, table, entries: [Vec::new(), Vec::new()], largest: LARGEST }
     }
 
     pub fn a(&self) -> usize {

@@ -1,4 +1,5 @@
-//! Counts by row and refusal number: a row is a call, or a kind of entry. 0 stands for an accepted call.
+//! Counts by row and number: a row is a call or a kind of entry, and the number its refusal, 0 for an accepted call; or a row is
+//! a place in Table 4-1 and the number a set, or pages, and the number one of them.
 
 use crate::refusals::{Numbers, FLOOR, LAST};
 
@@ -57,11 +58,12 @@ impl Tally {
         for (row, seen) in &self.rows {
             for (number, &count) in seen.iter().enumerate() {
                 let can_occur = row.numbers.has(number);
+                let seen = format!("{}: {}: {number} seen {count} times", self.heading, row.name);
                 if can_occur && count < row.floor {
-                    faults.push(format!("{}: {number} seen {count} times, below {}", row.name, row.floor));
+                    faults.push(format!("{seen}, below {}", row.floor));
                 }
                 if !can_occur && count > 0 {
-                    faults.push(format!("{}: {number} can't occur, seen {count} times", row.name));
+                    faults.push(format!("{seen}, can't occur"));
                 }
             }
         }

@@ -1,4 +1,5 @@
-//! Maps that the load accepts: every count, few entries, 15 or 16 in a string, full strings, sums up to exactly 256.
+//! Maps that the load accepts: every count, few entries, 15 or 16 in a string, full strings, sums up to exactly 256, and sets
+//! that end about a border of Table 4-1.
 
 use crate::random::Random;
 use crate::shape::shape;
@@ -23,6 +24,36 @@ pub fn valid(random: &Random) -> Strings {
         }
     }
     strings
+}
+
+/// A map whose staged or active length stands at or beside the end of a page or overflow page of Table 4-1.
+pub fn addressed(random: &Random) -> Strings {
+    let mut strings = Strings::new(random, good_count(random));
+    let lengths = match random.below(4) {
+        0 => [random.within(22, 24), random.below(LARGEST + 1)],
+        1 => [random.within(78, 80), random.below(LARGEST + 1)],
+        2 => [random.pick(&[0, random.below(21)]), random.within(20, 22)],
+        _ => [random.pick(&[0, random.below(77)]), random.within(76, 78)],
+    };
+    for (string, length) in lengths.into_iter().enumerate() {
+        strings.largest = length.max(strings.sum());
+        add_entries(random, &mut strings, string);
+        reserve(random, &mut strings, string);
+    }
+    strings
+}
+
+/// Brings the sum to the largest by a 00h entry before the last of a string, which leaves where there is no room for both.
+fn reserve(random: &Random, strings: &mut Strings, string: usize) {
+    if strings.sum() == strings.largest {
+        return;
+    }
+    if !strings.has_room(string) {
+        strings.entries[string].pop();
+    }
+    let entry = strings.small_entry(0x00, (strings.largest - strings.sum()).min(255));
+    let index = random.below(strings.entries[string].len().max(1));
+    strings.entries[string].insert(index, entry);
 }
 
 /// 1 to 15, most often at the ends of the two mask sizes.
@@ -58,7 +89,7 @@ pub fn fill_entries(random: &Random, strings: &mut Strings, string: usize, numbe
     }
 }
 
-/// Adds an entry if it leaves the string within its room, the sum within 256 and check 6 content. Says whether it did.
+/// Adds an entry if it leaves the string within its room, the sum within the largest and check 6 content. Says whether it did.
 fn add_entry(random: &Random, strings: &mut Strings, string: usize, room: usize) -> bool {
     let repeated = strings.entries[string].last().filter(|_| random.once_in(6)).map(|entry| entry[0]);
     let id = repeated.unwrap_or_else(|| strings.right_id(random, string));
@@ -66,7 +97,7 @@ fn add_entry(random: &Random, strings: &mut Strings, string: usize, room: usize)
     let has_fields = shape(id).needed > 0;
     let media = must_be_media || random.once_in(if has_fields { 8 } else { 2 });
     let entry = good_entry(random, strings.count, id, media);
-    let fits = strings.size(string) + entry.len() <= room && strings.sum() + strings.memory(&entry) <= LARGEST;
+    let fits = strings.size(string) + entry.len() <= room && strings.sum() + strings.memory(&entry) <= strings.largest;
     if fits {
         strings.entries[string].push(entry);
     }

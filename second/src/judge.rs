@@ -3,7 +3,7 @@
 //! beside them, stand with the reading of the strings.
 
 use crate::map::{Entry, Map, LANES};
-use crate::Refusal;
+use crate::{Byte, Refusal};
 
 pub const BANK: usize = 784;
 
@@ -47,6 +47,20 @@ pub fn field_10(map: &Map, entry: usize, part: usize, lane: usize) -> Result<&En
 /// 10: an offset that doesn't exist in a set that exists.
 pub fn offset_10(map: &Map, set: usize, offset: usize) -> Result<(), Refusal> {
     refuse_if(offset >= map.set_length(set), 10)
+}
+
+/// 10: a byte, in either form, that doesn't exist in a set that exists; its
+/// offset. Note 2: "an address outside its set is refusal 10": it isn't among the
+/// addresses of the set's bytes.
+pub fn byte_10(map: &Map, set: usize, byte: Byte) -> Result<usize, Refusal> {
+    match byte {
+        Byte::Offset(offset) => offset_10(map, set, offset).map(|()| offset),
+        Byte::Address { page, byte } => {
+            let wanted = Some((page, byte));
+            let offset = map.addresses(set).into_iter().position(|address| address == wanted);
+            offset.ok_or(Refusal::caller(10))
+        }
+    }
 }
 
 /// 10: a bit that doesn't exist, "bit 0 to 7".

@@ -1,8 +1,8 @@
 //! A second, independent rendering of the paper "The versatile control set:
-//! maps, banks and applied settings", with notes 1, 7, 8 and 12 of its change
-//! requests, "The numeric parameters", "Sixteen entries", "One walk through the
-//! strings" and "Finding an owner early". Words in quotes are the paper's, or a
-//! note's or the agreement's where these are named.
+//! maps, banks and applied settings", with notes 1, 2, 7, 8 and 12 of its change
+//! requests, "The numeric parameters", "Register addresses", "Sixteen entries",
+//! "One walk through the strings" and "Finding an owner early". Words in quotes
+//! are the paper's, or a note's or the agreement's where these are named.
 //!
 //! Method: both strings are read in one pass into a list of entries, or the
 //! refusal (`map`). A load broken off is taken up again with one entry that
@@ -10,12 +10,15 @@
 //! numbers kept (`kept`). The map is then expanded into one owner for every bit
 //! of a set, and a bank into a dictionary of numbers (`bank`). Every question is
 //! answered from these; the entries that owner looks at are counted on the list
-//! by where they begin. The plain table (`table`) judges calls and places fields
-//! by its own rendering of the same words, so that the two can be run against
-//! each other.
+//! by where they begin. Register addresses are written out as a list with a line
+//! for each byte of a set (`addresses`): place reads the line of a field's byte,
+//! owner looks for the line that has the address. The plain table (`table`)
+//! judges calls and places fields by its own rendering of the same words, so that
+//! the two can be run against each other.
 
 #![forbid(unsafe_code)]
 
+mod addresses;
 mod bank;
 mod judge;
 mod kept;
@@ -95,6 +98,26 @@ pub struct EntryInfo {
     pub offset: usize,
     pub memory: usize,
     pub in_ro: bool,
+}
+
+/// Place's answer. Note 2: "page, byte and lowest bit beside the offset"; page 0
+/// and byte 0 where the offset "has no address".
+#[derive(Clone, Copy, Debug, PartialEq, Eq)]
+pub struct Placed {
+    /// The byte in the set.
+    pub offset: usize,
+    pub page: usize,
+    /// The byte of the page.
+    pub byte: usize,
+    pub bit: usize,
+}
+
+/// The byte of a set that owner is asked about. Note 2: "Owner accepts either
+/// form".
+#[derive(Clone, Copy, Debug, PartialEq, Eq)]
+pub enum Byte {
+    Offset(usize),
+    Address { page: usize, byte: usize },
 }
 
 /// Owner's answer: "entry, part and lane, or gap". Note 12: "The answer also

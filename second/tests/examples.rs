@@ -65,23 +65,23 @@ fn p1() {
 #[test]
 fn p2() {
     let rw = [entry(0x00, 0, 1, &[]), entry(0x03, 1, 2, &[0])].concat();
-    assert_eq!(place(4, &rw, &[], 0, 1, 0, 5), Ok((2, 0)));
-    assert_eq!(owner(4, &rw, &[], 1, 2, 0), Ok(owned((1, 0, 5), 2)));
+    assert_eq!(place_of(4, &rw, &[], 0, 1, 0, 5), Ok((2, 0)));
+    assert_eq!(owner_of(4, &rw, &[], 1, 2, 0), Ok(owned((1, 0, 5), 2)));
 }
 
 /// "P3 04h at 3, lane 2: byte 3, bit 4. P4 04h at 3, lane 7: byte 6, bit 0."
 #[test]
 fn p3_p4() {
     let rw = [entry(0x00, 0, 3, &[]), entry(0x04, 1, 4, &[0, 0xFF, 0xFF])].concat();
-    assert_eq!(place(4, &rw, &[], 1, 1, 0, 2), Ok((3, 4)));
-    assert_eq!(place(4, &rw, &[], 2, 1, 0, 7), Ok((6, 0)));
+    assert_eq!(place_of(4, &rw, &[], 1, 1, 0, 2), Ok((3, 4)));
+    assert_eq!(place_of(4, &rw, &[], 2, 1, 0, 7), Ok((6, 0)));
 }
 
 /// "P5 07h at 9, part 1, lane 1: byte 13, bit 0."
 #[test]
 fn p5() {
     let rw = [entry(0x00, 0, 9, &[]), entry(0x07, 1, 8, &[0, 0, 0xFF, 0xFF])].concat();
-    assert_eq!(place(4, &rw, &[], 0, 1, 1, 1), Ok((13, 0)));
+    assert_eq!(place_of(4, &rw, &[], 0, 1, 1, 1), Ok((13, 0)));
 }
 
 /// "P6 −14 is stored F2h and at step 0 weighs −140. P7 −128 is 80h."

@@ -13,9 +13,9 @@ fn opaque_takes_its_space() {
     let second = EntryInfo { id: 0x01, start: 7, length: 4, offset: 7, memory: 0, in_ro: false };
     let third = EntryInfo { id: 0x0F, start: 11, length: 5, offset: 7, memory: 8, in_ro: false };
     assert_eq!(list, [first, second, third]);
-    assert_eq!(place(2, &rw, &[], 0, 2, 0, 8), Ok((14, 0)));
-    assert_eq!(owner(2, &rw, &[], 0, 6, 7), Ok(gap(1)));
-    assert_eq!(owner(2, &rw, &[], 0, 7, 0), Ok(owned((2, 0, 1), 3)));
+    assert_eq!(place_of(2, &rw, &[], 0, 2, 0, 8), Ok((14, 0)));
+    assert_eq!(owner_of(2, &rw, &[], 0, 6, 7), Ok(gap(1)));
+    assert_eq!(owner_of(2, &rw, &[], 0, 7, 0), Ok(owned((2, 0, 1), 3)));
 }
 
 /// "Moving the map when an AppSel lacks a parameter: the map follows the
@@ -25,7 +25,7 @@ fn map_follows_the_strings_only() {
     let with = |mask| [entry(0x03, mask, 2, &[0]), entry(0x0F, 1, 8, &[0])].concat();
     for mask in 0..=255 {
         assert_eq!(entries(3, &with(mask), &[]), entries(3, &with(0), &[]));
-        assert_eq!(place(3, &with(mask), &[], 2, 1, 0, 2), Ok((3, 0)));
+        assert_eq!(place_of(3, &with(mask), &[], 2, 1, 0, 2), Ok((3, 0)));
     }
 }
 

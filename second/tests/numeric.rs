@@ -134,17 +134,17 @@ fn places() {
             for lane in 1..=8 {
                 let b = (lane - 1) * w;
                 let (byte, bit) = (offset + b / 8, b % 8);
-                assert_eq!(place(1, &rw, &[], set, entry, 0, lane), Ok((byte, bit)));
+                assert_eq!(place_of(1, &rw, &[], set, entry, 0, lane), Ok((byte, bit)));
                 assert_eq!(place(1, &rw, &[], set, entry, 1, lane), Err(caller(10)));
                 for high in bit..bit + w {
                     let said = owned((entry, 0, lane), entry + 1);
-                    assert_eq!(owner(1, &rw, &[], set, byte, high), Ok(said));
+                    assert_eq!(owner_of(1, &rw, &[], set, byte, high), Ok(said));
                 }
             }
         }
     }
     // Surplus MemoryLength is a gap.
-    assert_eq!(owner(1, &rw, &[], 0, 12, 0), Ok(gap(3)));
+    assert_eq!(owner_of(1, &rw, &[], 0, 12, 0), Ok(gap(3)));
 }
 
 /// Min to Max, both in; one number; no 0; Min above Max: none.

@@ -4,19 +4,14 @@ mod common;
 use common::*;
 use second::*;
 
-/// 00h of a count 1 to 8 that reserves `memory` bytes.
-fn reserved(memory: u8) -> Vec<u8> {
-    entry(0x00, 0, memory, &[])
-}
-
 /// The numbers of entries looked at for the bytes of a set, first to last; they
 /// are the same for all eight bits.
 fn counts(count: usize, rw: &[u8], ro: &[u8], set: usize) -> Vec<usize> {
     let loaded = load(count, rw, ro).unwrap();
     let length = if set == 2 { loaded.active_length } else { loaded.staged_length };
-    assert_eq!(owner(count, rw, ro, set, length, 0), Err(caller(10)));
+    assert_eq!(owner_of(count, rw, ro, set, length, 0), Err(caller(10)));
     let of_byte = |offset: usize| {
-        let of_bit = |bit| owner(count, rw, ro, set, offset, bit).unwrap().looked_at;
+        let of_bit = |bit| owner_of(count, rw, ro, set, offset, bit).unwrap().looked_at;
         let looked_at = of_bit(0);
         assert!((1..8).all(|bit| of_bit(bit) == looked_at), "byte {offset}");
         looked_at
@@ -41,7 +36,7 @@ fn first_middle_last() {
     ]
     .concat();
     for set in 0..3 {
-        let said = |offset, bit| owner(4, &rw, &[], set, offset, bit);
+        let said = |offset, bit| owner_of(4, &rw, &[], set, offset, bit);
         assert_eq!(said(0, 0), Ok(owned((0, 0, 1), 1)));
         assert_eq!(said(7, 7), Ok(owned((0, 0, 8), 1)));
         assert_eq!(said(8, 0), Ok(owned((1, 0, 1), 2)));
@@ -91,10 +86,10 @@ fn memory_length_0() {
     assert_eq!(counts(4, &rw, &[], 2), runs(&staged));
     assert_eq!(counts(4, &rw, &ro, 2), runs(&[&staged[..], &[(14, 8), (16, 16)]].concat()));
     assert_eq!(counts(4, &[], &ro, 2), runs(&[(3, 8), (5, 16)]));
-    assert_eq!(owner(4, &rw, &ro, 1, 0, 2), Ok(owned((2, 0, 3), 3)));
-    assert_eq!(owner(4, &rw, &ro, 2, 3, 7), Ok(owned((8, 0, 8), 9)));
-    assert_eq!(owner(4, &rw, &ro, 2, 4, 0), Ok(owned((13, 0, 1), 14)));
-    assert_eq!(owner(4, &rw, &ro, 2, 27, 0), Ok(owned((15, 1, 8), 16)));
+    assert_eq!(owner_of(4, &rw, &ro, 1, 0, 2), Ok(owned((2, 0, 3), 3)));
+    assert_eq!(owner_of(4, &rw, &ro, 2, 3, 7), Ok(owned((8, 0, 8), 9)));
+    assert_eq!(owner_of(4, &rw, &ro, 2, 4, 0), Ok(owned((13, 0, 1), 14)));
+    assert_eq!(owner_of(4, &rw, &ro, 2, 27, 0), Ok(owned((15, 1, 8), 16)));
 }
 
 /// `n` of them before, `m` behind; and strings of nothing else.
@@ -105,7 +100,7 @@ fn many_of_memory_length_0() {
             let last = entry(0x0B, 1, 1, &[0]);
             let rw = [reserved(0).repeat(n), last, reserved(0).repeat(m)].concat();
             for set in 0..3 {
-                assert_eq!(owner(1, &rw, &[], set, 0, 6), Ok(owned((n, 0, 7), n + 1)));
+                assert_eq!(owner_of(1, &rw, &[], set, 0, 6), Ok(owned((n, 0, 7), n + 1)));
                 assert_eq!(counts(1, &rw, &[], set), [n + 1]);
             }
         }
@@ -114,13 +109,13 @@ fn many_of_memory_length_0() {
         let none = reserved(0).repeat(n);
         // No byte, so nothing is looked at.
         for set in 0..3 {
-            assert_eq!(owner(1, &none, &none, set, 0, 0), Err(caller(10)));
+            assert_eq!(owner_of(1, &none, &none, set, 0, 0), Err(caller(10)));
         }
         let ro = [reserved(0), entry(0x12, 1, 9, &[0, 0, 0]), reserved(0)].concat();
-        assert_eq!(owner(1, &none, &ro, 0, 0, 0), Err(caller(10)));
+        assert_eq!(owner_of(1, &none, &ro, 0, 0, 0), Err(caller(10)));
         assert_eq!(counts(1, &none, &ro, 2), runs(&[(n + 2, 9)]));
-        assert_eq!(owner(1, &none, &ro, 2, 7, 0), Ok(owned((n + 1, 0, 8), n + 2)));
-        assert_eq!(owner(1, &none, &ro, 2, 8, 0), Ok(gap(n + 2)));
+        assert_eq!(owner_of(1, &none, &ro, 2, 7, 0), Ok(owned((n + 1, 0, 8), n + 2)));
+        assert_eq!(owner_of(1, &none, &ro, 2, 8, 0), Ok(gap(n + 2)));
     }
 }
 
@@ -135,7 +130,7 @@ fn ro_entries() {
         let of_ro = [(n + 1, 17), (n + 2, 2), (n + 3, 8)];
         assert_eq!(counts(4, &rw, &ro, 0), runs(&of_rw));
         assert_eq!(counts(4, &rw, &ro, 2), runs(&[&of_rw[..], &of_ro].concat()));
-        let said = |offset, bit| owner(4, &rw, &ro, 2, n + offset, bit);
+        let said = |offset, bit| owner_of(4, &rw, &ro, 2, n + offset, bit);
         assert_eq!(said(0, 0), Ok(owned((n, 0, 1), n + 1)));
         assert_eq!(said(15, 7), Ok(owned((n, 1, 8), n + 1)));
         assert_eq!(said(16, 0), Ok(gap(n + 1)));
@@ -164,7 +159,7 @@ fn gaps() {
         assert_eq!(counts(8, &rw, &[], set), runs(&bytes));
         for (offset, looked_at) in runs(&bytes).into_iter().enumerate() {
             for bit in 0..8 {
-                let said = owner(8, &rw, &[], set, offset, bit).unwrap();
+                let said = owner_of(8, &rw, &[], set, offset, bit).unwrap();
                 assert_eq!(said == gap(looked_at), gap_at.contains(&offset));
                 let entry = said.field.map(|(entry, _, _)| entry + 1);
                 assert_eq!(entry.unwrap_or(looked_at), looked_at);
@@ -174,7 +169,7 @@ fn gaps() {
     // A set of gaps alone, up to the last byte that a set can have.
     let two = [reserved(255), reserved(0), reserved(1)].concat();
     assert_eq!(counts(1, &two, &[], 1), runs(&[(1, 255), (3, 1)]));
-    assert_eq!(owner(1, &reserved(255), &reserved(1), 2, 255, 7), Ok(gap(2)));
+    assert_eq!(owner_of(1, &reserved(255), &reserved(1), 2, 255, 7), Ok(gap(2)));
 }
 
 /// Strings of one entry: 1 at every byte, in whichever string it stands.
@@ -222,8 +217,9 @@ fn refusals_carry_no_count() {
     let asked = [(0, 0, 0), (1, 0, 7), (2, 0, 3), (2, 300, 0), (3, 0, 0), (0, 0, 8)];
     let said = |rw: &[u8], ro: &[u8], wanted: Refusal| {
         for (set, offset, bit) in asked {
+            let refusal = owner_of(4, rw, ro, set, offset, bit).unwrap_err();
             // These three, and no more.
-            let Refusal { number, entry, lane } = owner(4, rw, ro, set, offset, bit).unwrap_err();
+            let Refusal { number, entry, lane } = refusal;
             assert_eq!(Refusal { number, entry, lane }, wanted);
         }
     };
@@ -241,7 +237,7 @@ fn refusals_carry_no_count() {
     said(&[0; 121], &[], caller(9));
     said(&space(4, 1, false), &[0; 121], caller(9));
     for count in [0, 16, usize::MAX] {
-        assert_eq!(owner(count, &space(4, 1, false), &[], 0, 0, 0), Err(caller(9)));
+        assert_eq!(owner_of(count, &space(4, 1, false), &[], 0, 0, 0), Err(caller(9)));
     }
     // 10, at the edges of each set.
     let (rw, ro) = (space(4, 5, false), [space(4, 5, true), reserved(0)].concat());
@@ -250,10 +246,10 @@ fn refusals_carry_no_count() {
         (0, 5, 0), (1, 5, 7), (1, 9, 0), (2, 10, 0), (2, huge, 0), (0, huge / 8 + 1, 0), (3, 0, 0),
         (huge, 0, 0), (0, 4, 8), (2, 9, huge), (3, huge, 9),
     ] {
-        assert_eq!(owner(4, &rw, &ro, set, offset, bit), Err(caller(10)));
+        assert_eq!(owner_of(4, &rw, &ro, set, offset, bit), Err(caller(10)));
     }
-    assert_eq!(owner(4, &rw, &ro, 1, 4, 7), Ok(gap(5)));
-    assert_eq!(owner(4, &rw, &ro, 2, 9, 7), Ok(gap(10)));
+    assert_eq!(owner_of(4, &rw, &ro, 1, 4, 7), Ok(gap(5)));
+    assert_eq!(owner_of(4, &rw, &ro, 2, 9, 7), Ok(gap(10)));
 }
 
 // ---------------------------------------------------------------------------
@@ -311,11 +307,11 @@ fn as_a_naive_reading() {
         let list = entries(count, &rw, &ro).unwrap();
         for offset in 0..loaded.active_length {
             for bit in 0..8 {
-                let said = owner(count, &rw, &ro, 2, offset, bit).unwrap();
+                let said = owner_of(count, &rw, &ro, 2, offset, bit).unwrap();
                 let wanted = naive(count, [&rw, &ro], offset, bit);
                 assert_eq!(said, wanted, "{count} {rw:02X?} {ro:02X?} {offset} {bit}");
                 for set in 0..2 {
-                    let staged = owner(count, &rw, &ro, set, offset, bit);
+                    let staged = owner_of(count, &rw, &ro, set, offset, bit);
                     let has = offset < loaded.staged_length;
                     assert_eq!(staged, if has { Ok(said) } else { Err(caller(10)) });
                 }
@@ -324,7 +320,7 @@ fn as_a_naive_reading() {
                 }
             }
             // The entry that covers the byte, and those passed.
-            let said = owner(count, &rw, &ro, 2, offset, 0).unwrap();
+            let said = owner_of(count, &rw, &ro, 2, offset, 0).unwrap();
             let (covering, passed) = list[..said.looked_at].split_last().unwrap();
             assert!((covering.offset..covering.offset + covering.memory).contains(&offset));
             assert!(passed.iter().all(|e| e.offset + e.memory <= offset));
@@ -354,11 +350,11 @@ fn cut_behind_the_entry() {
         let list = entries(count, &rw, &ro).unwrap();
         for offset in 0..loaded.active_length {
             let bit = random.below(8);
-            let said = owner(count, &rw, &ro, 2, offset, bit).unwrap();
+            let said = owner_of(count, &rw, &ro, 2, offset, bit).unwrap();
             let last = list[said.looked_at - 1];
             let cut = |at: usize, set: usize| match last.in_ro {
-                true => owner(count, &rw, &ro[..at], set, offset, bit),
-                false => owner(count, &rw[..at], &[], set, offset, bit),
+                true => owner_of(count, &rw, &ro[..at], set, offset, bit),
+                false => owner_of(count, &rw[..at], &[], set, offset, bit),
             };
             for set in if last.in_ro { 2..3 } else { 0..3 } {
                 assert_eq!(cut(last.start + last.length, set), Ok(said));
@@ -393,12 +389,12 @@ fn one_more_of_memory_length_0() {
                 added += 1;
                 for offset in 0..loaded.active_length {
                     let (set, bit) = (random.below(3), random.below(8));
-                    let wanted = owner(count, &rw, &ro, set, offset, bit).map(|old| {
+                    let wanted = owner_of(count, &rw, &ro, set, offset, bit).map(|old| {
                         let moved = usize::from(old.looked_at > number);
                         let field = old.field.map(|(of, part, lane)| (of + moved, part, lane));
                         Owned { field, looked_at: old.looked_at + moved }
                     });
-                    assert_eq!(owner(count, rw2, ro2, set, offset, bit), wanted);
+                    assert_eq!(owner_of(count, rw2, ro2, set, offset, bit), wanted);
                 }
             }
         }

@@ -68,7 +68,7 @@ fn other_bits_keep_their_content() {
                 }
                 let (byte, bit) = (at / 8, at % 8);
                 let of = |set: usize| match set == byte / 256 && byte < 768 {
-                    true => owner(count, &rw, &ro, set, byte % 256, bit).ok()?.field,
+                    true => owner_of(count, &rw, &ro, set, byte % 256, bit).ok()?.field,
                     false => None,
                 };
                 match call {
@@ -103,14 +103,15 @@ fn other_bits_keep_their_content() {
                 Call::ByteWrite { set, offset, byte } => {
                     let stored = bank[256 * set + offset];
                     for bit in 0..8 {
-                        let gap = owner(count, &rw, &ro, set, offset, bit).unwrap().field.is_none();
+                        let said = owner_of(count, &rw, &ro, set, offset, bit).unwrap();
+                        let gap = said.field.is_none();
                         assert_eq!(stored >> bit & 1, if gap { 0 } else { byte >> bit & 1 });
                     }
                 }
                 Call::ByteRead { set, offset } => {
                     let mut shown = 0;
                     for bit in 0..8 {
-                        if owner(count, &rw, &ro, set, offset, bit).unwrap().field.is_some() {
+                        if owner_of(count, &rw, &ro, set, offset, bit).unwrap().field.is_some() {
                             shown |= bank[256 * set + offset] & 1 << bit;
                         }
                     }
@@ -120,7 +121,8 @@ fn other_bits_keep_their_content() {
                     for (number, info) in entries(count, &rw, &ro).unwrap().iter().enumerate() {
                         for part in 0..2 {
                             for lane in 1..=8 {
-                                let Ok((byte, bit)) = place(count, &rw, &ro, set, number, part, lane) else {
+                                let at = place_of(count, &rw, &ro, set, number, part, lane);
+                                let Ok((byte, bit)) = at else {
                                     continue;
                                 };
                                 let app = before[768 + 8 * set + lane - 1];
@@ -163,10 +165,10 @@ fn place_and_owner_agree() {
             let mut owned = 0;
             for offset in 0..length {
                 for bit in 0..8 {
-                    let said = owner(count, &rw, &ro, set, offset, bit).unwrap();
+                    let said = owner_of(count, &rw, &ro, set, offset, bit).unwrap();
                     if let Some((entry, part, lane)) = said.field {
-                        let (byte, low) = place(count, &rw, &ro, set, entry, part, lane).unwrap();
-                        assert!(byte == offset && low <= bit);
+                        let at = place(count, &rw, &ro, set, entry, part, lane).unwrap();
+                        assert!(at.offset == offset && at.bit <= bit);
                         owned += 1;
                     }
                 }
@@ -189,7 +191,7 @@ fn place_and_owner_agree() {
                     for lane in 1..=8 {
                         let b = (lane - 1) * w;
                         let wanted = (info.offset + part * w + b / 8, b % 8);
-                        assert_eq!(place(count, &rw, &ro, set, number, part, lane), Ok(wanted));
+                        assert_eq!(place_of(count, &rw, &ro, set, number, part, lane), Ok(wanted));
                         fields += w;
                     }
                 }
@@ -241,7 +243,8 @@ fn anything_at_all() {
             let n = random.next() as usize;
             assert_eq!(entries(count, rw, ro), Err(refusal));
             assert_eq!(place(count, rw, ro, n, n, n, n), Err(refusal));
-            assert_eq!(owner(count, rw, ro, n, n, n), Err(refusal));
+            assert_eq!(owner_of(count, rw, ro, n, n, n), Err(refusal));
+            assert_eq!(owner_at(count, rw, ro, n, (n, n), n), Err(refusal));
             assert_eq!(entry_bytes(count, rw, ro, n), Err(refusal));
             assert_eq!(Table::fresh(count, rw, ro).err(), Some(refusal));
         }

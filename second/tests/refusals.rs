@@ -166,7 +166,8 @@ fn order_of_all_refusals() {
         assert_eq!(load(3, rw, ro), Err(caller(9)));
         assert_eq!(entries(3, rw, ro), Err(caller(9)));
         assert_eq!(place(3, rw, ro, 3, 0, 0, 0), Err(caller(9)));
-        assert_eq!(owner(3, rw, ro, 3, 0, 0), Err(caller(9)));
+        assert_eq!(owner_of(3, rw, ro, 3, 0, 0), Err(caller(9)));
+        assert_eq!(owner_at(3, rw, ro, 3, (0, 0), 0), Err(caller(9)));
         assert_eq!(entry_bytes(3, rw, ro, 0), Err(caller(9)));
         assert_eq!(weight(3, rw, ro, &bank, 6, 1), Err(caller(9)));
     }
@@ -183,7 +184,8 @@ fn order_of_all_refusals() {
     assert_eq!(fresh(3, &bad, &[], &mut bank), Err(maker(1, 0)));
     assert_eq!(weight(3, &rw, &[2, 2], &bank, 99, 99), Err(maker(2, 4)));
     assert_eq!(place(3, &bad, &[], 3, 0, 0, 0), Err(maker(1, 0)));
-    assert_eq!(owner(3, &bad, &[], 3, 0, 0), Err(maker(1, 0)));
+    assert_eq!(owner_of(3, &bad, &[], 3, 0, 0), Err(maker(1, 0)));
+    assert_eq!(owner_at(3, &bad, &[], 3, (0, 0), 0), Err(maker(1, 0)));
     assert_eq!(entry_bytes(3, &rw, &bad, 0), Err(maker(1, 4)));
     assert_eq!(bank, [7; 784]);
 }
@@ -223,8 +225,8 @@ fn select_write_read() {
         assert_eq!(pair.read(set, entry, part, lane), refused(caller(number)));
         assert_eq!(place(3, &rw, &ro, set, entry, part, lane), Err(caller(number)));
     }
-    assert_eq!(place(3, &rw, &ro, 2, 4, 1, 8), Ok((17 + 15, 0)));
-    assert_eq!(place(3, &rw, &ro, 1, 3, 1, 8), Ok((8 + 7, 4)));
+    assert_eq!(place_of(3, &rw, &ro, 2, 4, 1, 8), Ok((17 + 15, 0)));
+    assert_eq!(place_of(3, &rw, &ro, 1, 3, 1, 8), Ok((8 + 7, 4)));
     assert_eq!(pair.read(2, 6, 0, 8), Answer::Number(0));
 }
 
@@ -241,14 +243,14 @@ fn bytes_publish_weight() {
     }
     for (set, offset) in [(0, 17), (1, 20), (2, 43), (2, huge), (3, 0)] {
         assert_eq!(pair.byte_read(set, offset), refused(caller(10)));
-        assert_eq!(owner(3, &rw, &ro, set, offset, 0), Err(caller(10)));
+        assert_eq!(owner_of(3, &rw, &ro, set, offset, 0), Err(caller(10)));
     }
-    assert_eq!(owner(3, &rw, &ro, 0, 0, 8), Err(caller(10)));
-    assert_eq!(owner(3, &rw, &ro, 0, 0, huge), Err(caller(10)));
-    assert_eq!(owner(3, &rw, &ro, 0, 16, 0), Ok(gap(4)));
-    assert_eq!(owner(3, &rw, &ro, 2, 17, 7), Ok(owned((4, 0, 1), 5)));
-    assert_eq!(owner(3, &rw, &ro, 2, 42, 3), Ok(owned((6, 0, 8), 7)));
-    assert_eq!(owner(3, &rw, &ro, 2, 33, 0), Ok(gap(6)));
+    assert_eq!(owner_of(3, &rw, &ro, 0, 0, 8), Err(caller(10)));
+    assert_eq!(owner_of(3, &rw, &ro, 0, 0, huge), Err(caller(10)));
+    assert_eq!(owner_of(3, &rw, &ro, 0, 16, 0), Ok(gap(4)));
+    assert_eq!(owner_of(3, &rw, &ro, 2, 17, 7), Ok(owned((4, 0, 1), 5)));
+    assert_eq!(owner_of(3, &rw, &ro, 2, 42, 3), Ok(owned((6, 0, 8), 7)));
+    assert_eq!(owner_of(3, &rw, &ro, 2, 33, 0), Ok(gap(6)));
     assert_eq!(pair.byte_write(0, 16, 0xFF), Answer::Yes);
     assert_eq!(pair.byte_read(0, 16), Answer::Number(0));
     assert_eq!(pair.byte_write(1, 4, 0xED), Answer::Yes);

@@ -22,7 +22,8 @@ fn all_refuse(count: usize, rw: &[u8], ro: &[u8], refusal: Refusal) {
     assert_eq!(fresh(count, rw, ro, &mut bank), Err(refusal));
     for n in [0, 1, 2, 9, 15, 16, 17, 40, usize::MAX] {
         assert_eq!(place(count, rw, ro, n, n, n, n), Err(refusal));
-        assert_eq!(owner(count, rw, ro, n, n, n), Err(refusal));
+        assert_eq!(owner_of(count, rw, ro, n, n, n), Err(refusal));
+        assert_eq!(owner_at(count, rw, ro, n, (n, n), n), Err(refusal));
         assert_eq!(entry_bytes(count, rw, ro, n), Err(refusal));
         assert_eq!(weight(count, rw, ro, &bank, n, n), Err(refusal));
         let value = n as i64;
@@ -261,9 +262,9 @@ fn calls_on_a_full_map() {
     let rw = [space(4, 15, false), entry(0x07, 1, 8, &[0, 0, 0xFF, 0xFF])].concat();
     let ro = [space(4, 15, true), entry(0x12, 1, 8, &[0, 0, 3])].concat();
     let mut pair = Pair::fresh(4, &rw, &ro);
-    assert_eq!(place(4, &rw, &ro, 1, 15, 1, 8), Ok((15 + 7, 4)));
-    assert_eq!(place(4, &rw, &ro, 2, 31, 0, 8), Ok((23 + 15 + 7, 0)));
-    assert_eq!(owner(4, &rw, &ro, 2, 45, 7), Ok(owned((31, 0, 8), 32)));
+    assert_eq!(place_of(4, &rw, &ro, 1, 15, 1, 8), Ok((15 + 7, 4)));
+    assert_eq!(place_of(4, &rw, &ro, 2, 31, 0, 8), Ok((23 + 15 + 7, 0)));
+    assert_eq!(owner_of(4, &rw, &ro, 2, 45, 7), Ok(owned((31, 0, 8), 32)));
     assert_eq!(entry_bytes(4, &rw, &ro, 15), Ok(&rw[60..]));
     assert_eq!(entry_bytes(4, &rw, &ro, 31), Ok(&ro[60..]));
     assert_eq!(entry_bytes(4, &rw, &ro, 32), Err(caller(10)));
@@ -416,9 +417,9 @@ fn calls_as_an_unlimited_walk() {
                 let lane = 1 + random.below(8);
                 let b = (lane - 1) * w;
                 let at = (info.offset + part * w + b / 8, b % 8);
-                assert_eq!(place(count, &rw, &ro, 2, number, part, lane), Ok(at));
+                assert_eq!(place_of(count, &rw, &ro, 2, number, part, lane), Ok(at));
                 let said = owned((number, part, lane), number + 1);
-                assert_eq!(owner(count, &rw, &ro, 2, at.0, at.1), Ok(said));
+                assert_eq!(owner_of(count, &rw, &ro, 2, at.0, at.1), Ok(said));
             }
         }
         let mut pair = Pair::fresh(count, &rw, &ro);

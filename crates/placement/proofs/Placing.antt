@@ -7,10 +7,10 @@ use native.Mathlib.Omega.{arith}
 use lib.ListN.{length}
 use lib.Dec.{ltb, leb, ltb→lt, leb→le}
 use Rattle.rules.specs.declared.Refusal.the-variants.{Plain as plain}
-use Rattle.rules.specs.declared.Placed.the-variants.{At as placedAt, Refused as notPlaced}
+use Rattle.rules.specs.declared.Placed.the-variants.{Refused as notPlaced}
 use Rattle.rules.specs.Load.{Map, mapOf}
 use Rattle.rules.specs.Place.{entry, partsOf, isSet, isStaged}
-use Rattle.rules.specs.Beside.{placeOf}
+use Rattle.rules.specs.Beside.{placedIn, placeOf}
 use Rattle.rules.proofs.Basics.Tests.{and₄, from-true}
 use Rattle.rules.proofs.Load.EntryHeads.{entry-fits}
 use Rattle.rules.proofs.Place.PlaceCalls.{place-10, place-11, place-at}
@@ -47,5 +47,5 @@ module _ (count : ℕ) (first last : List ℕ) {e p i : ℕ} {f : Named} (z : In
 
       pub placing-at :
           (isStaged s && f .ro) ≡ false
-          → placedAt (f .offset + p * f .width + (i - 1) * f .width / 8) ((i - 1) * f .width % 8) ≡ placeOf count first last s e p i
+          → placedIn s (f .offset + p * f .width + (i - 1) * f .width / 8) ((i - 1) * f .width % 8) ≡ placeOf count first last s e p i
       placing-at t = rw (width-is count first last z, offset-is count first last z) (place-at count first last s e p i (z .ok) (z .has) h (rw (side-is count first last z) at t))

@@ -1,8 +1,12 @@
 // Placing: where a field lies, and whose a bit is.
+mod address;
+
 ghost use mathlib.Core.Path.{_≡_};
 ghost use Prim.Native.Nat.{_≤_, _<_};
-ghost use Rattle.rules.specs.Beside.{placeOf, ownerCall};
-ghost use Rattle.placement.specs.Owner.{fieldIn};
+ghost use Rattle.rules.specs.Beside.{placedIn, placeOf, ownerCall, ownerAtCall};
+ghost use Rattle.placement.specs.Owner.{fieldIn, Near, ownedFrom};
+use crate::address::address_of;
+use crate::address::offset_of;
 use descriptor::Covered;
 use descriptor::Found;
 use descriptor::cover;
@@ -11,7 +15,20 @@ use rules::Owned;
 use rules::Placed;
 use rules::Refusal;
 
-// Place: a field's offset in a set and its lowest bit there, refused as read is.
+// A place in a set: its offset, the address of this offset, and its lowest bit.
+fn placed_in(set: usize, offset: usize, bit: usize) -> Placed
+    ensures { λ r. ⌜ r ≡ placedIn set offset bit ⌝ }
+{
+    let at = address_of(set, offset);
+    Placed::At {
+        offset,
+        page: at.page,
+        byte: at.byte,
+        bit,
+    }
+}
+
+// Place: a field's offset in a set, its page and byte by Table 4-1, and its lowest bit there; refused as read is.
 pub fn place(
     count: usize,
     rw: &[u8],
@@ -35,10 +52,8 @@ pub fn place(
                 return Placed::Refused(Refusal::Plain(11));
             }
             let first = (lane - 1) * f.width;
-            Placed::At {
-                offset: f.offset + part * f.width + first / 8,
-                bit: first % 8,
-            }
+            let offset = f.offset + part * f.width + first / 8;
+            placed_in(set, offset, first % 8)
         }
     }
 }
@@ -68,11 +83,11 @@ fn field_in(
     }
 }
 
-// Owner: the field that a bit of a set belongs to, or gap, and the number of entries looked at.
-pub fn owner(count: usize, rw: &[u8], ro: &[u8], set: usize, offset: usize, bit: usize) -> Owned
-    ensures { λ r. ⌜ r ≡ ownerCall count (now (rw .entry)) (now (ro .entry)) set offset bit ⌝ }
+// A bit's owner, from the entry that covers its byte.
+fn owned(covered: Covered, set: usize, offset: usize, bit: usize) -> Owned
+    requires { ⌜ Near covered offset ⌝ }
+    ensures { λ r. ⌜ r ≡ ownedFrom covered set offset bit ⌝ }
 {
-    let covered = cover(count, rw, ro, offset);
     match covered {
         Covered::Refused(r) => Owned::Refused(r),
         Covered::Nothing => Owned::Refused(Refusal::Plain(10)),
@@ -90,4 +105,28 @@ pub fn owner(count: usize, rw: &[u8], ro: &[u8], set: usize, offset: usize, bit:
             field_in(number, parts, width, looked, offset - start, bit)
         }
     }
+}
+
+// Owner: the field that a bit of a set belongs to, or gap, and the number of entries looked at.
+pub fn owner(count: usize, rw: &[u8], ro: &[u8], set: usize, offset: usize, bit: usize) -> Owned
+    ensures { λ r. ⌜ r ≡ ownerCall count (now (rw .entry)) (now (ro .entry)) set offset bit ⌝ }
+{
+    owned(cover(count, rw, ro, offset), set, offset, bit)
+}
+
+// Owner by an address, the page and byte that Table 4-1 gives an offset of the set. It doesn't call `owner`, which with one caller is
+// inlined in its export.
+pub fn owner_at(
+    count: usize,
+    rw: &[u8],
+    ro: &[u8],
+    set: usize,
+    page: usize,
+    byte: usize,
+    bit: usize,
+) -> Owned
+    ensures { λ r. ⌜ r ≡ ownerAtCall count (now (rw .entry)) (now (ro .entry)) set page byte bit ⌝ }
+{
+    let offset = offset_of(set, page, byte);
+    owned(cover(count, rw, ro, offset), set, offset, bit)
 }

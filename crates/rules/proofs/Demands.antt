@@ -1,9 +1,12 @@
 -- The demands of document 01, what 02 says of its notes, and where each is proved. Open this file first; the statements are in specs/Demands.antt.
-use Rattle.rules.specs.Demands.{Demand1, Demand2, Demand3, Demand3-after-fresh, Note7, Note8, Twelve}
+use Rattle.rules.specs.Demands.{Demand1, Demand2, Demand3, Demand3-after-fresh, Note2, Note7, Note8, Twelve}
 use Rattle.rules.proofs.Refusals.AllRefusals.{refusals}
 use Rattle.rules.proofs.Place.PlaceOwner.{both-ways}
 use Rattle.rules.proofs.Lists.Lists.{lists-agree}
 use Rattle.rules.proofs.Lists.Fresh.{lists-agree-after-fresh}
+use Rattle.rules.proofs.Place.Addresses.{one-to-one}
+use Rattle.rules.proofs.Place.AddressOwner.{at-addresses}
+use Rattle.rules.proofs.Lists.Told.{told-after-fresh}
 use Rattle.rules.proofs.Load.Limits.{as-before}
 use Rattle.rules.proofs.Load.TakenUp.{taken-up}
 use Rattle.rules.proofs.Worked.Settings.{settings}
@@ -22,6 +25,10 @@ demand3 = lists-agree
 
 pub demand3-after-fresh : Demand3-after-fresh
 demand3-after-fresh = lists-agree-after-fresh
+
+-- address and offset are one to one; owner at the address that place gives a field tells that field, and read gives the plain table's number
+pub note2 : Note2
+note2 = record { addresses = one-to-one; owners = at-addresses; told = told-after-fresh }
 
 -- strings of at most 16 entries each are read, and every call on them made, as without the limit of note 7
 pub note7 : Note7

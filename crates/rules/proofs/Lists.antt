@@ -5,3 +5,4 @@ pub mod Allowed
 pub mod Calls
 pub mod Lists
 pub mod Fresh
+pub mod Told

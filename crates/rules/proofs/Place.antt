@@ -7,5 +7,7 @@ pub mod LanesOfByte
 pub mod Owners
 pub mod OwnerAt
 pub mod CoverIndex
+pub mod Addresses
 pub mod PlaceOwner
 pub mod PlaceCalls
+pub mod AddressOwner

@@ -11,15 +11,19 @@ use Rattle.rules.specs.Place.{entry, isSet, isRW, isLane, lengthOf, fiel
 use Rattle.rules.specs.Accept.{weightOf}
 use Rattle.rules.specs.Refuse.{Verdict, passes, refuses, refuseIf, orderOf, bankOrder, judge}
 use Rattle.rules.specs.Bank.{Bank, numberIn}
+use Rattle.rules.specs.Address.{addresses, addressOf, offsetOf}
 
--- "place (set, entry, part, lane) answers byte and lowest bit": refused as read is
+-- "place (set, entry, part, lane) answers byte and lowest bit"; 02, note 2: "page, byte and lowest bit beside the offset". Refused as read is
+abbrev pub placedIn : ℕ → ℕ → ℕ → Placed
+placedIn s k q = placedAt k (addressOf s k .page) (addressOf s k .byte) q
+
 abbrev pub placed : Verdict → Placed → Placed
 placed passes x = x
 placed (refuses r) x = notPlaced r
 
 abbrev pub placeOn : Reading → ℕ → ℕ → ℕ → ℕ → Placed
 placeOn r s e p i =
-    placed (orderOf r (judge (r .map) (read s e p i))) (placedAt (fieldByte (entry (r .map) e) p i) (fieldBit (entry (r .map) e) i))
+    placed (orderOf r (judge (r .map) (read s e p i))) (placedIn s (fieldByte (entry (r .map) e) p i) (fieldBit (entry (r .map) e) i))
 
 unfoldable pub placeOf : ℕ → List ℕ → List ℕ → ℕ → ℕ → ℕ → ℕ → Placed
 placeOf count rw ro s e p i = placeOn (readOf count rw ro) s e p i
@@ -50,11 +54,24 @@ owned (refuses r) x = notOwned r
 abbrev pub isBit : Map → ℕ → ℕ → ℕ → Bool
 isBit m s k q = isSet s && (ltb k (lengthOf m s) && ltb q 8)
 
+abbrev pub ownerIf : Bool → Reading → ℕ → ℕ → ℕ → Owned
+ownerIf there r s k q = owned (orderOf r (refuseIf (not there) (plain 10) ∷ [])) (ownedAs (lookedAt (r .map) k) (ownerOf (r .map) s k q))
+
 abbrev pub ownerOn : Reading → ℕ → ℕ → ℕ → Owned
-ownerOn r s k q = owned (orderOf r (refuseIf (not (isBit (r .map) s k q)) (plain 10) ∷ [])) (ownedAs (lookedAt (r .map) k) (ownerOf (r .map) s k q))
+ownerOn r s k q = ownerIf (isBit (r .map) s k q) r s k q
 
 unfoldable pub ownerCall : ℕ → List ℕ → List ℕ → ℕ → ℕ → ℕ → Owned
 ownerCall count rw ro s k q = ownerOn (readOf count rw ro) s k q
+
+-- 02, note 2: "Owner accepts either form, and an address outside its set is refusal 10.": an offset, or a page and a byte that stand for one
+abbrev pub isBitAt : Map → ℕ → ℕ → ℕ → ℕ → Bool
+isBitAt m s page byte q = ltb (offsetOf s page byte) (length (addresses s)) && isBit m s (offsetOf s page byte) q
+
+abbrev pub ownerAtOn : Reading → ℕ → ℕ → ℕ → ℕ → Owned
+ownerAtOn r s page byte q = ownerIf (isBitAt (r .map) s page byte q) r s (offsetOf s page byte) q
+
+unfoldable pub ownerAtCall : ℕ → List ℕ → List ℕ → ℕ → ℕ → ℕ → ℕ → Owned
+ownerAtCall count rw ro s page byte q = ownerAtOn (readOf count rw ro) s page byte q
 
 -- the entry call; 10: an entry that doesn't exist
 unfoldable pub entryVerdict : Reading → ℕ → Verdict

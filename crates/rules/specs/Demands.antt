@@ -7,7 +7,7 @@ use Prim.Native.Nat.{ℕ, zero, suc, _+_, _≤_, _<_}
 use lib.IntN.{ℤ, pos, negsuc}
 use lib.ListN.{length, getD, take, drop}
 use lib.Dec.{T, eqb}
-use Rattle.rules.specs.Words.{Refusal, plain, atEntry, atLane, Entry, decoded, failed, State, ended, Loaded, accepted, rejected, Passed, past, passedAll, notPassed, Call, read, Answer, refused, placedAt, notPlaced, ownedBy, noOwner, notOwned, noMore, notTaken}
+use Rattle.rules.specs.Words.{Refusal, plain, atEntry, atLane, Entry, decoded, failed, State, ended, Loaded, accepted, rejected, Passed, past, passedAll, notPassed, Call, read, Answer, number, refused, placedAt, notPlaced, ownedBy, noOwner, notOwned, noMore, notTaken}
 use Rattle.rules.specs.Numbers.{cut}
 use Rattle.rules.specs.Descriptor.{maskBytes, hasApp, byteAt, entryAt, unlimited, decodeAt}
 use Rattle.rules.specs.Load.{start, intoRO, entryNumber, Turn, Map, Reading, foldOf, walkWithin, readWithin, readOf, sized, loadOn, loadOf, resumeOf, passOf, rwEntries, roEntries, total, mapOf}
@@ -17,11 +17,18 @@ use Rattle.rules.specs.Layout.{bankSize, HasBytes, setStart}
 use Rattle.rules.specs.Bank.{Bank, numberIn, appSelIn, bankCallOn, bankCall, freshOn, freshCall, bankMakes}
 use Rattle.rules.specs.Table.{Table, freshTable, tableCallOn, tableCall, tableMakes}
 use Rattle.rules.specs.Machine.{Command, run}
-use Rattle.rules.specs.Beside.{placeOn, placeOf, ownerOn, ownerCall, entryAnswerOn, entryAnswer, entryBytesOn, entryBytes, weightOn, weightCall}
+use Rattle.rules.specs.Address.{addressOf, offsetOf, HasAddress}
+use Rattle.rules.specs.Beside.{placeOn, placeOf, ownerOn, ownerCall, ownerAtOn, ownerAtCall, entryAnswerOn, entryAnswer, entryBytesOn, entryBytes, weightOn, weightCall}
 use Rattle.rules.specs.MapProgram.{rwBytes, roBytes, outputOn, mapOutput}
 use Rattle.rules.specs.Reader.{takeOf}
 use Rattle.rules.specs.Columns.{Accepts, Shaped, TwosComplement, ExtrasRead}
 use Rattle.rules.specs.Conditions.{gives, First, entryRules, Way, PastMedia, entriesPast, Lane, planRules, callRules, stringRules, bankRules, ReaderSized, readerRules}
+
+-- 02, note 2: the address of a byte of a set, within the set's length
+pub record InSet (m : Map) (s page byte : ℕ) : Type 0 where
+  pub offset : ℕ
+  pub given : HasAddress s offset page byte
+  pub short : offset < lengthOf m s
 
 -- DEMAND 1: "A refused call gives the number that 01's order picks, changes no byte, and does its own checking."
 
@@ -53,6 +60,10 @@ pub record Refusals (count : ℕ) (rw ro : List ℕ) (b : Bank) : Type 0 where
   pub owner : (s k q : ℕ) (x : Refusal)
       → (ownerCall count rw ro s k q ≡ notOwned x)
       ↔ First (stringRules count rw ro (gives (plain 10) (¬ ((s < 3) × (k < lengthOf (mapOf count rw ro) s) × (q < 8))) ∷ [])) x
+  -- 02, note 2: "an address outside its set is refusal 10"; a set that doesn't exist has none
+  pub owner-at : (s page byte q : ℕ) (x : Refusal)
+      → (ownerAtCall count rw ro s page byte q ≡ notOwned x)
+      ↔ First (stringRules count rw ro (gives (plain 10) (¬ (InSet (mapOf count rw ro) s page byte × (q < 8))) ∷ [])) x
   pub own-entry : (e : ℕ) (x : Refusal)
       → (entryAnswer count rw ro e ≡ refused x)
       ↔ First (stringRules count rw ro (gives (plain 10) (¬ (e < length (mapOf count rw ro .entries))) ∷ [])) x
@@ -84,10 +95,12 @@ pub record Accepted (count : ℕ) (rw ro : List ℕ) : Type 0 where
   pub active : ℕ
   pub loads : loadOf count rw ro ≡ accepted rwCount roCount staged active
 
--- the place that the place call gives a field covers bit q of byte k
+-- the place that the place call gives a field covers bit q of offset k
 pub record PlaceCovers (count : ℕ) (rw ro : List ℕ) (s e p i k q : ℕ) : Type 0 where
+  pub page : ℕ
+  pub byte : ℕ
   pub bit : ℕ
-  pub at : placeOf count rw ro s e p i ≡ placedAt k bit
+  pub at : placeOf count rw ro s e p i ≡ placedAt k page byte bit
   pub low : bit ≤ q
   pub top : q < bit + widthOf (entry (mapOf count rw ro) e)
 
@@ -131,7 +144,7 @@ pub record OwnerAndPlace (count : ℕ) (rw ro : List ℕ) : Type 0 where
       → q < 8
       → (ownerCall count rw ro s k q ≡ noOwner n) ↔ (((e p i : ℕ) → ¬ (PlaceCovers count rw ro s e p i k q)) × LooksAt (mapOf count rw ro) k n)
   -- a field that is placed owns its place
-  pub place-owned : (s e p i k q : ℕ) → placeOf count rw ro s e p i ≡ placedAt k q → ownerCall count rw ro s k q ≡ ownedBy e p i (suc e)
+  pub place-owned : (s e p i k page byte q : ℕ) → placeOf count rw ro s e p i ≡ placedAt k page byte q → ownerCall count rw ro s k q ≡ ownedBy e p i (suc e)
   -- every byte of a set is covered by the space of one entry alone; 02, note 12: "An entry with MemoryLength 0 covers no byte"
   pub one-space : (s k : ℕ) → k < lengthOf (mapOf count rw ro) s → (e : ℕ) × Spans (mapOf count rw ro) e k
   pub no-other : (e e′ k : ℕ) → Spans (mapOf count rw ro) e k → Spans (mapOf count rw ro) e′ k → e ≡ e′
@@ -139,7 +152,8 @@ pub record OwnerAndPlace (count : ℕ) (rw ro : List ℕ) : Type 0 where
   -- every field that a set holds is placed, within its entry and within one byte
   pub placed : (s e p i : ℕ)
       → T (holds (mapOf count rw ro) s e p i)
-      → placeOf count rw ro s e p i ≡ placedAt (fieldByte (entry (mapOf count rw ro) e) p i) (fieldBit (entry (mapOf count rw ro) e) i)
+      → let k : ℕ = fieldByte (entry (mapOf count rw ro) e) p i in
+      placeOf count rw ro s e p i ≡ placedAt k (addressOf s k .page) (addressOf s k .byte) (fieldBit (entry (mapOf count rw ro) e) i)
   pub inside : (s e p i k q : ℕ)
       → PlaceCovers count rw ro s e p i k q
       → (entry (mapOf count rw ro) e .offset ≤ k)
@@ -232,6 +246,73 @@ abbrev pub Demand3-after-fresh : Type 0
 Demand3-after-fresh =
     (count : ℕ) (rw ro bank : List ℕ) → FreshAccepted count rw ro bank → (calls : List Command) → ListAgrees count rw ro bank calls
 
+-- 02, NOTE 2: "A user who asks owner at the address and bit that place gives for a field (page 0, byte 0 aside) is told that field, and read
+-- gives the number that the plain table holds."
+
+-- "page 0, byte 0 aside"
+abbrev pub NoAddress : ℕ → ℕ → Type 0
+NoAddress page byte = (page ≡ 0) × (byte ≡ 0)
+
+-- the bytes that Table 4-1 gives a set: 23, 23 and 21, and 56 on each overflow page
+abbrev pub bytesGiven : ℕ → ℕ
+bytesGiven zero = 79
+bytesGiven (suc zero) = 79
+bytesGiven (suc (suc s)) = 77
+
+-- address and offset, by Table 4-1
+pub record OneToOne : Type 0 where
+  -- an offset has the address that the table gives it, and the address that offset; one that the table gives none has page 0 and byte 0, which
+  -- the table gives to none
+  pub given : (s k page byte : ℕ) → HasAddress s k page byte → addressOf s k ≡ record { page = page; byte = byte }
+  pub back : (s k page byte : ℕ) → HasAddress s k page byte → offsetOf s page byte ≡ k
+  pub counts : (s k : ℕ) → s < 3 → ((page : ℕ) × (byte : ℕ) × HasAddress s k page byte) ↔ (k < bytesGiven s)
+  pub none : (s k : ℕ) → s < 3 → ((page byte : ℕ) → ¬ (HasAddress s k page byte)) ↔ NoAddress (addressOf s k .page) (addressOf s k .byte)
+  pub some : (s k page byte : ℕ) → HasAddress s k page byte → ¬ (NoAddress page byte)
+  -- an offset has one address alone, and an address is one offset of one set alone
+  pub one-address : (s k page byte page′ byte′ : ℕ) → HasAddress s k page byte → HasAddress s k page′ byte′ → (page ≡ page′) × (byte ≡ byte′)
+  pub one-offset : (s k s′ k′ page byte : ℕ) → HasAddress s k page byte → HasAddress s′ k′ page byte → (s ≡ s′) × (k ≡ k′)
+
+-- the place that the place call gives a field has an address, and covers bit q there
+pub record PlaceCoversAt (count : ℕ) (rw ro : List ℕ) (s e p i page byte q : ℕ) : Type 0 where
+  pub offset : ℕ
+  pub bit : ℕ
+  pub at : placeOf count rw ro s e p i ≡ placedAt offset page byte bit
+  pub some : ¬ (NoAddress page byte)
+  pub low : bit ≤ q
+  pub top : q < bit + widthOf (entry (mapOf count rw ro) e)
+
+pub record OwnerAtAddress (count : ℕ) (rw ro : List ℕ) : Type 0 where
+  -- the address that place gives is Table 4-1's
+  pub place-given : (s e p i k page byte q : ℕ) → placeOf count rw ro s e p i ≡ placedAt k page byte q → ¬ (NoAddress page byte) → HasAddress s k page byte
+  pub place-none : (s e p i k page byte q : ℕ)
+      → placeOf count rw ro s e p i ≡ placedAt k page byte q
+      → NoAddress page byte
+      → (page′ byte′ : ℕ)
+      → ¬ (HasAddress s k page′ byte′)
+  -- "Owner accepts either form": at an address it answers what it answers at its offset
+  pub either-form : (s k page byte q : ℕ) → HasAddress s k page byte → ownerAtCall count rw ro s page byte q ≡ ownerCall count rw ro s k q
+  -- both ways, at every bit of an address: it tells a field exactly when that field's place covers the bit there, and a gap exactly when no
+  -- field's does
+  pub owner-is : (s page byte q e p i n : ℕ)
+      → (ownerAtCall count rw ro s page byte q ≡ ownedBy e p i n) ↔ (PlaceCoversAt count rw ro s e p i page byte q × (n ≡ suc e))
+  pub owner-gap : (s page byte q n : ℕ)
+      → (at : InSet (mapOf count rw ro) s page byte)
+      → q < 8
+      → (ownerAtCall count rw ro s page byte q ≡ noOwner n)
+      ↔ (((e p i : ℕ) → ¬ (PlaceCoversAt count rw ro s e p i page byte q)) × LooksAt (mapOf count rw ro) (at .offset) n)
+
+-- after a list of calls, of a field and each of its bits
+pub record Told (count : ℕ) (rw ro : List ℕ) (bank : Bank) (calls : List Command) : Type 0 where
+  pub field : (s e p i k page byte bit : ℕ)
+      → placeOf count rw ro s e p i ≡ placedAt k page byte bit
+      → ((q : ℕ) → ¬ (NoAddress page byte) → bit ≤ q → q < bit + widthOf (entry (mapOf count rw ro) e) → ownerAtCall count rw ro s page byte q ≡ ownedBy e p i (suc e))
+      × (bankCall count rw ro (read s e p i) (bankRun count rw ro bank calls .1) .0 ≡ number (tableRun count rw ro calls .1 .numbers s e p i))
+
+pub record Note2 : Type 0 where
+  pub addresses : OneToOne
+  pub owners : (count : ℕ) (rw ro : List ℕ) → Accepted count rw ro → OwnerAtAddress count rw ro
+  pub told : (count : ℕ) (rw ro bank : List ℕ) → FreshAccepted count rw ro bank → (calls : List Command) → Told count rw ro bank calls
+
 -- 02, NOTE 7: "Whoever lends two strings of at most 16 entries each sees the same answers as before."
 
 -- how many entries of a string a walk without a limit comes to, the one that fails a check among them
@@ -263,6 +344,7 @@ pub record AsBefore (count : ℕ) (rw ro : List ℕ) : Type 0 where
   pub table : (c : Call) (t : Table) → tableCall count rw ro c t ≡ tableCallOn (readBefore count rw ro) c t
   pub place : (s e p i : ℕ) → placeOf count rw ro s e p i ≡ placeOn (readBefore count rw ro) s e p i
   pub owner : (s k q : ℕ) → ownerCall count rw ro s k q ≡ ownerOn (readBefore count rw ro) s k q
+  pub owner-at : (s page byte q : ℕ) → ownerAtCall count rw ro s page byte q ≡ ownerAtOn (readBefore count rw ro) s page byte q
   pub own-entry : (e : ℕ) → entryAnswer count rw ro e ≡ entryAnswerOn (readBefore count rw ro) e
   pub own-part : (e : ℕ) → entryBytes count rw ro e ≡ entryBytesOn (readBefore count rw ro) rw ro e
   pub weight : (b : Bank) (e i : ℕ) → weightCall count rw ro b e i ≡ weightOn (readBefore count rw ro) b e i

@@ -11,6 +11,7 @@ pub mod Refuse
 pub mod Machine
 pub mod Bank
 pub mod Table
+pub mod Address
 pub mod Beside
 pub mod Reader
 pub mod MapProgram

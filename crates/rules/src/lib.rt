@@ -148,9 +148,15 @@ pub enum Answer {
     Refused(Refusal),
 }
 
-// Where a field lies: its offset in the set and its lowest bit.
+// Where a field lies: its offset in the set, the page and byte that Table 4-1 of OIF-CMIS-VCS-01.1 gives this offset (0 and 0 where it
+// gives none), and its lowest bit.
 pub enum Placed {
-    At { offset: usize, bit: usize },
+    At {
+        offset: usize,
+        page: usize,
+        byte: usize,
+        bit: usize,
+    },
     Refused(Refusal),
 }
 

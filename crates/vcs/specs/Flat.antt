@@ -70,8 +70,8 @@ flatEntry (nowhere r) =
     record { refusal = reasonOf r .number; at = reasonOf r .at; string = 0; start = 0; length = 0; offset = 0 }
 
 abbrev pub flatPlaced : Placed → FlatPlaced
-flatPlaced (placedAt k q) = record { refusal = 0; at = 0; offset = k; bit = q }
-flatPlaced (notPlaced r) = record { refusal = reasonOf r .number; at = reasonOf r .at; offset = 0; bit = 0 }
+flatPlaced (placedAt k page byte q) = record { refusal = 0; at = 0; offset = k; page = page; byte = byte; bit = q }
+flatPlaced (notPlaced r) = record { refusal = reasonOf r .number; at = reasonOf r .at; offset = 0; page = 0; byte = 0; bit = 0 }
 
 abbrev pub flatOwned : Owned → FlatOwned
 flatOwned (ownedBy e p i n) = record { refusal = 0; at = 0; gap = 0; entry = e; part = p; lane = i; looked = n }

@@ -3,7 +3,7 @@ ghost use mathlib.Core.Path.{_≡_};
 ghost use Rattle.rules.specs.Load.{loadOf, resumeOf, passOf};
 ghost use Rattle.rules.specs.declared.Call.{Call};
 ghost use Rattle.rules.specs.Bank.{freshCall, bankCall};
-ghost use Rattle.rules.specs.Beside.{placeOf, ownerCall, weightCall};
+ghost use Rattle.rules.specs.Beside.{placeOf, ownerCall, ownerAtCall, weightCall};
 ghost use Rattle.rules.specs.Reader.{takeOf, movedTo};
 ghost use Rattle.descriptor.specs.Locate.{locatedOf};
 ghost use Rattle.vcs.specs.Flat.{reasonOf, flatLoaded, stateOf, flagOf, flatState, noState, flatPassed, flatEntry, flatPlaced, flatOwned, flatAnswer, flatTaken, callOf};
@@ -23,6 +23,7 @@ use descriptor::locate;
 use descriptor::pass;
 use descriptor::resume;
 use placement::owner;
+use placement::owner_at;
 use placement::place;
 use reader::take_from;
 use rules::Answer;
@@ -90,6 +91,8 @@ pub struct FlatPlaced {
     pub refusal: usize,
     pub at: usize,
     pub offset: usize,
+    pub page: usize,
+    pub byte: usize,
     pub bit: usize,
 }
 
@@ -227,6 +230,48 @@ fn no_state() -> FlatState
         before: 0,
         sum: 0,
         staged: 0,
+    }
+}
+
+fn flat_owned(o: Owned) -> FlatOwned
+    ensures { λ r. ⌜ r ≡ flatOwned o ⌝ }
+{
+    match o {
+        Owned::Field {
+            entry,
+            part,
+            lane,
+            looked,
+        } => FlatOwned {
+            refusal: 0,
+            at: 0,
+            gap: 0,
+            entry,
+            part,
+            lane,
+            looked,
+        },
+        Owned::Gap { looked } => FlatOwned {
+            refusal: 0,
+            at: 0,
+            gap: 1,
+            entry: 0,
+            part: 0,
+            lane: 0,
+            looked,
+        },
+        Owned::Refused(r) => {
+            let why = reason_of(r);
+            FlatOwned {
+                refusal: why.number,
+                at: why.at,
+                gap: 0,
+                entry: 0,
+                part: 0,
+                lane: 0,
+                looked: 0,
+            }
+        }
     }
 }
 
@@ -392,7 +437,7 @@ pub extern "C" fn vcs_entry(count: usize, rw: &[u8], ro: &[u8], entry: usize) ->
     }
 }
 
-// Place: a field's offset in a set and its lowest bit there.
+// Place: a field's offset in a set, its page and byte, and its lowest bit there.
 #[no_mangle]
 pub extern "C" fn vcs_place(
     count: usize,
@@ -407,10 +452,17 @@ pub extern "C" fn vcs_place(
 {
     let placed = place(count, rw, ro, set, entry, part, lane);
     match placed {
-        Placed::At { offset, bit } => FlatPlaced {
+        Placed::At {
+            offset,
+            page,
+            byte,
+            bit,
+        } => FlatPlaced {
             refusal: 0,
             at: 0,
             offset,
+            page,
+            byte,
             bit,
         },
         Placed::Refused(r) => {
@@ -419,6 +471,8 @@ pub extern "C" fn vcs_place(
                 refusal: why.number,
                 at: why.at,
                 offset: 0,
+                page: 0,
+                byte: 0,
                 bit: 0,
             }
         }
@@ -437,44 +491,23 @@ pub extern "C" fn vcs_owner(
 ) -> FlatOwned
     ensures { λ r. ⌜ r ≡ flatOwned (ownerCall count (now (rw .entry)) (now (ro .entry)) set offset bit) ⌝ }
 {
-    let owned = owner(count, rw, ro, set, offset, bit);
-    match owned {
-        Owned::Field {
-            entry,
-            part,
-            lane,
-            looked,
-        } => FlatOwned {
-            refusal: 0,
-            at: 0,
-            gap: 0,
-            entry,
-            part,
-            lane,
-            looked,
-        },
-        Owned::Gap { looked } => FlatOwned {
-            refusal: 0,
-            at: 0,
-            gap: 1,
-            entry: 0,
-            part: 0,
-            lane: 0,
-            looked,
-        },
-        Owned::Refused(r) => {
-            let why = reason_of(r);
-            FlatOwned {
-                refusal: why.number,
-                at: why.at,
-                gap: 0,
-                entry: 0,
-                part: 0,
-                lane: 0,
-                looked: 0,
-            }
-        }
-    }
+    flat_owned(owner(count, rw, ro, set, offset, bit))
+}
+
+// Owner by an address: the same of a bit of a byte of a page.
+#[no_mangle]
+pub extern "C" fn vcs_owner_at(
+    count: usize,
+    rw: &[u8],
+    ro: &[u8],
+    set: usize,
+    page: usize,
+    byte: usize,
+    bit: usize,
+) -> FlatOwned
+    ensures { λ r. ⌜ r ≡ flatOwned (ownerAtCall count (now (rw .entry)) (now (ro .entry)) set page byte bit) ⌝ }
+{
+    flat_owned(owner_at(count, rw, ro, set, page, byte, bit))
 }
 
 // Fresh: the bank cleared, and both entry counts, staged and active length.

@@ -1,15 +1,16 @@
 //! The calls on a bank: answer and every byte after each, by engine and second program.
 
-use std::fmt;
+use std::fmt::{self, Display};
 
 use second::Table;
 
 use super::load;
 use crate::case::{Case, Hex};
-use crate::engine::{self, app_sel_at, app_sels, set_start, Answered, FlatCall, Loaded, BANK_SIZE};
+use crate::engine::{self, app_sel_at, app_sels, set_start, Answered, FlatCall, Loaded, Owned, Placed, BANK_SIZE};
 use crate::random::Random;
 use crate::refusals::{self, LISTS_TO_THE_END};
 use crate::report::{Answer, Report};
+use crate::table_4_1;
 use crate::tally::Row;
 
 pub static FRESH: Row = Row::new("fresh", refusals::FRESH);
@@ -24,9 +25,12 @@ pub static PERFORM: Row = Row::new("perform", refusals::PERFORM);
 pub static UNKNOWN: Row = Row::new("perform: unknown kind", refusals::UNKNOWN_KIND);
 pub static WEIGHT: Row = Row::new("weight", refusals::WEIGHT);
 
-/// The end of a list after a fresh, against the plain table: the bank, twice, each number by read, each AppSel by apply.
+/// The end of a list after a fresh, against the plain table: the bank, twice, each number by read, and that owner tells its
+/// field at the address that place gives it, each AppSel by apply.
 pub static END_BANK: Row = Row { floor: 2 * LISTS_TO_THE_END, ..Row::new("end: bank", refusals::ACCEPTED) };
 pub static END_READ: Row = Row::new("end: read", refusals::FIELD);
+pub static END_ON_PAGE: Row = Row::new("end: owner on page", refusals::ACCEPTED);
+pub static END_ON_OVERFLOW: Row = Row::new("end: owner on overflow", refusals::ACCEPTED);
 pub static END_APPLY: Row = Row::new("end: apply", refusals::LANES);
 
 /// Bytes behind a lent bank, which no call may reach.
@@ -272,7 +276,9 @@ pub fn compare_end(report: &mut Report, case: &Case, bank: &Bank, entries: &[usi
             let call = second::Call::Read { set, entry, part, lane };
             let answered = engine::read(case.count, case.rw, case.ro, &lent, set, entry, part, lane);
             let others = [("table", as_engine(table.perform(call)))];
-            report.compare(&END_READ, &format_args!("{case} bank {hex} {call:?}"), &answered, &others);
+            let shown = format_args!("{case} bank {hex} {call:?}");
+            report.compare(&END_READ, &shown, &answered, &others);
+            compare_address(report, case, &shown, [set, entry, part, lane]);
         }
     }
     for (set, lane) in (0..2).flat_map(|set| (0..8).map(move |lane| (set, lane))) {
@@ -282,6 +288,19 @@ pub fn compare_end(report: &mut Report, case: &Case, bank: &Bank, entries: &[usi
         report.compare(&END_APPLY, &format_args!("{case} bank {hex} {call:?}"), &answered, &others);
     }
     compare_bytes(report, case, &lent, &table);
+}
+
+/// Compares what owner tells at the address and bit that place gives a field, if it gives an address, with that field: the one
+/// whose number is read.
+fn compare_address(report: &mut Report, case: &Case, shown: &dyn Display, [set, entry, part, lane]: [usize; 4]) {
+    let Case { count, rw, ro } = *case;
+    let Placed { offset, page, byte, bit, .. } = engine::place(count, rw, ro, set, entry, part, lane);
+    if [page, byte] != [0, 0] {
+        let owned = engine::owner_at(count, rw, ro, set, page, byte, bit);
+        let field = Owned { entry, part, lane, looked_at: entry + 1, ..Owned::default() };
+        let row = if offset < table_4_1::overflow(set) { &END_ON_PAGE } else { &END_ON_OVERFLOW };
+        report.compare(row, shown, &owned, &[("the field", field)]);
+    }
 }
 
 /// Compares every byte of a bank with the bank that shows the table.

@@ -4,6 +4,7 @@ pub mod bank;
 pub mod entry;
 pub mod load;
 pub mod owner;
+pub mod owner_at;
 pub mod place;
 pub mod resume;
 pub mod take;
@@ -15,7 +16,7 @@ use crate::report::Report;
 use crate::tally::Row;
 
 /// Every call, in the order of the table that is printed.
-pub const CALLS: [&Row; 30] = [
+pub const CALLS: [&Row; 36] = [
     &load::CALL,
     &resume::PASS,
     &resume::ENTRY,
@@ -28,6 +29,10 @@ pub const CALLS: [&Row; 30] = [
     &owner::CALL,
     &owner::FIELD,
     &owner::GAP,
+    &owner_at::CALL,
+    &owner_at::FIELD,
+    &owner_at::GAP,
+    &owner_at::OTHER,
     &take::CALL,
     &take::ENTRY,
     &take::END,
@@ -45,6 +50,8 @@ pub const CALLS: [&Row; 30] = [
     &bank::WEIGHT,
     &bank::END_BANK,
     &bank::END_READ,
+    &bank::END_ON_PAGE,
+    &bank::END_ON_OVERFLOW,
     &bank::END_APPLY,
 ];
 
@@ -61,6 +68,7 @@ pub fn compare(report: &mut Report, case: &Case, random: &Random) {
         for _ in 0..FEW {
             place::compare_one(report, case, &loaded, random);
             owner::compare_one(report, case, &loaded, random);
+            owner_at::compare_one(report, case, &loaded, random);
         }
         take::compare(report, case, &loaded, random);
         if random.once_in(BROKEN_OFF) {
@@ -70,12 +78,14 @@ pub fn compare(report: &mut Report, case: &Case, random: &Random) {
     }
 }
 
-/// Compares every call without a bank on one map: the load also with answers that are known, place and owner for every field and bit.
+/// Compares every call without a bank on one map: the load also with answers that are known, place and owner for every field,
+/// bit and address.
 pub fn compare_all(report: &mut Report, case: &Case, known: &[(&str, Loaded)]) {
     if let Some(loaded) = load::compare(report, case, known) {
         entry::compare(report, case, &loaded);
         place::compare_all(report, case, &loaded);
         owner::compare_all(report, case, &loaded);
+        owner_at::compare_all(report, case, &loaded);
         take::compare_all(report, case, &loaded);
         resume::compare(report, case, &loaded);
     }

@@ -16,8 +16,8 @@ pub static CALL: Row = Row::new("owner", refusals::OWNER);
 pub static FIELD: Row = Row::new("owner: a field", ACCEPTED);
 pub static GAP: Row = Row::new("owner: gap", ACCEPTED);
 
-fn of_second(case: &Case, set: usize, offset: usize, bit: usize) -> Owned {
-    match second::owner(case.count, case.rw, case.ro, set, offset, bit) {
+pub fn of_second(case: &Case, set: usize, byte: second::Byte, bit: usize) -> Owned {
+    match second::owner(case.count, case.rw, case.ro, set, byte, bit) {
         Ok(second::Owned { field: Some((entry, part, lane)), looked_at }) => {
             Owned { refusal: 0, at: 0, gap: 0, entry, part, lane, looked_at }
         }
@@ -36,7 +36,7 @@ pub fn compare(
     let Case { count, rw, ro } = *case;
     let owned = engine::owner(count, rw, ro, set, offset, bit);
     let peer = peer::owner(count, rw, ro, set, offset, bit);
-    let mut others = vec![("second", of_second(case, set, offset, bit)), ("peer", peer)];
+    let mut others = vec![("second", of_second(case, set, second::Byte::Offset(offset), bit)), ("peer", peer)];
     others.extend_from_slice(known);
     let agree = report.compare(&CALL, &format_args!("{case} set {set} offset {offset} bit {bit}"), &owned, &others);
     if agree && owned.refusal == 0 {

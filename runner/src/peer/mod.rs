@@ -3,6 +3,7 @@
 
 #![allow(improper_ctypes_definitions)]
 
+mod addresses;
 mod apply;
 mod layout;
 mod resume;
@@ -110,6 +111,22 @@ impl Entry<'_> {
     }
 }
 
+/// The owner of a bit of the byte at an offset.
+#[inline(always)]
+fn owned(count: usize, rw: &[u8], ro: &[u8], set: usize, offset: usize, bit: usize) -> Owned {
+    let map = passed!(walk(count, rw, ro, NO_BANK, &mut ()));
+    refuse_if!(set > 2 || set < 2 && offset >= map.staged || bit > 7, 10);
+    let e = passed!(map.covering(rw, ro, offset).ok_or((10, 0)));
+    let (at, looked_at) = (offset - e.offset, e.number + 1);
+    if at >= e.row.needed.into() {
+        return Owned { gap: 1, looked_at, ..Owned::default() };
+    }
+    let part = at >> e.row.shift;
+    let byte = at - (part << e.row.shift);
+    let lane = ((8 * byte + bit) >> e.row.shift) + 1;
+    Owned { refusal: 0, at: 0, gap: 0, entry: e.number, part, lane, looked_at }
+}
+
 /// Functions that are called as the engine's are: from C, and not inlined.
 macro_rules! calls {
     ($(fn $name:ident($($argument:ident: $type:ty),*) -> $answer:ty $body:block)*) => {$(
@@ -144,21 +161,16 @@ calls! {
         refuse_if!(set > 2 || !e.has_field(part, lane), 10);
         refuse_if!(set < 2 && e.in_ro, 11);
         let (offset, bit) = e.place(part, lane);
-        Placed { refusal: 0, at: 0, offset, bit }
+        let (page, byte) = addresses::address(set, offset);
+        Placed { refusal: 0, at: 0, offset, page, byte, bit }
     }
 
     fn owner(count: usize, rw: &[u8], ro: &[u8], set: usize, offset: usize, bit: usize) -> Owned {
-        let map = passed!(walk(count, rw, ro, NO_BANK, &mut ()));
-        refuse_if!(set > 2 || set < 2 && offset >= map.staged || bit > 7, 10);
-        let e = passed!(map.covering(rw, ro, offset).ok_or((10, 0)));
-        let (at, looked_at) = (offset - e.offset, e.number + 1);
-        if at >= e.row.needed.into() {
-            return Owned { gap: 1, looked_at, ..Owned::default() };
-        }
-        let part = at >> e.row.shift;
-        let byte = at - (part << e.row.shift);
-        let lane = ((8 * byte + bit) >> e.row.shift) + 1;
-        Owned { refusal: 0, at: 0, gap: 0, entry: e.number, part, lane, looked_at }
+        owned(count, rw, ro, set, offset, bit)
+    }
+
+    fn owner_at(count: usize, rw: &[u8], ro: &[u8], set: usize, page: usize, byte: usize, bit: usize) -> Owned {
+        owned(count, rw, ro, set, addresses::offset(set, page, byte), bit)
     }
 
     fn fresh(count: usize, rw: &[u8], ro: &[u8], bank: &mut [u8]) -> Loaded {

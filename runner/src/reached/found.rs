@@ -3,6 +3,7 @@
 
 use super::look::{Look, Seen};
 use crate::strings::{MOST_ENTRIES, RO, RW};
+use std::ops::Range;
 
 /// A byte of an accepted map: the entries that were passed, the one that covers the byte, and those behind it.
 pub struct Found<'a> {
@@ -59,17 +60,17 @@ impl<'a> Found<'a> {
         self.behind.first().is_some_and(|entry| self.is_empty(entry))
     }
 
-    /// Where the space of the entry that covers the byte begins.
-    fn start(&self) -> usize {
-        self.passed.iter().filter_map(|entry| self.look.memory(entry)).sum()
+    /// The space of the entry that covers the byte.
+    fn space(&self) -> Range<usize> {
+        self.look.space(self.passed.len())
     }
 
     fn is_first_byte(&self) -> bool {
-        self.offset == self.start()
+        self.offset == self.space().start
     }
 
     fn is_last_byte(&self) -> bool {
-        Some(self.offset + 1 - self.start()) == self.look.memory(self.covering)
+        self.offset + 1 == self.space().end
     }
 }
 

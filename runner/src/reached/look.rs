@@ -6,6 +6,7 @@ use crate::engine::{Loaded, Passed, State};
 use crate::refusals::{named, Named};
 use crate::shape::{self, mask_bytes, shape, TABLE};
 use crate::strings::{LARGEST, MOST_ENTRIES, RO, RW};
+use std::ops::Range;
 
 /// An entry: its string, and the bytes from its ID to the string's end.
 #[derive(Clone, Copy)]
@@ -147,6 +148,18 @@ impl<'a> Look<'a> {
     /// A string comes to a 17th entry, looked at by its Lengths alone.
     pub fn has_17th_in(&self, string: usize) -> bool {
         self.entries(string) > MOST_ENTRIES
+    }
+
+    /// The offsets of a passed entry's space, and of all its fields.
+    pub fn space(&self, entry: usize) -> Range<usize> {
+        let memory = |entry: &Seen| self.memory(entry).unwrap_or(0);
+        let start = self.passed[..entry].iter().map(memory).sum();
+        start..start + memory(&self.passed[entry])
+    }
+
+    pub fn fields(&self, entry: usize) -> Range<usize> {
+        let start = self.space(entry).start;
+        start..start + self.needed(&self.passed[entry])
     }
 
     /// The sum of the MemoryLengths that were passed, with this entry's.

@@ -1,6 +1,7 @@
-//! What the generated maps reached in the load, where it was taken up again and where owner found a byte, counted so that a
-//! generator that misses its aim fails the run.
+//! What the generated maps reached in the load, where it was taken up again, where owner found a byte and where in Table 4-1
+//! place and owner stood, counted so that a generator that misses its aim fails the run.
 
+mod addressed;
 mod breaks;
 mod found;
 mod kinds;
@@ -14,6 +15,7 @@ use crate::case::Case;
 use crate::engine::{Loaded, Owned, Passed};
 use crate::refusals::FLOOR;
 use crate::tally::Tally;
+use addressed::Addressed;
 use breaks::{Break, BREAKS};
 use found::{Found, FOUND};
 use limits::LIMITS;
@@ -29,6 +31,7 @@ pub struct Reached {
     states: Limits,
     /// Of fields and of gaps.
     found: [Limits; 2],
+    addressed: Addressed,
 }
 
 impl Reached {
@@ -41,6 +44,7 @@ impl Reached {
             breaks: Limits::new(BREAKS.iter().map(|(name, _)| *name)),
             states: Limits::new(STATES.iter().map(|(name, _)| *name)),
             found: ["field", "gap"].map(|kind| Limits::new(FOUND.iter().map(|(name, _)| format!("{kind} {name}")))),
+            addressed: Addressed::new(),
         }
     }
 
@@ -52,6 +56,9 @@ impl Reached {
             pairs::count(&mut self.pairs, answer.refusal, &look, &stop);
         }
         self.limits.count(LIMITS.iter().map(|(_, test)| test(&look)));
+        if look.accepted() {
+            self.addressed.loaded(&answer);
+        }
     }
 
     /// Counts a load that was broken off, and what was left of it.
@@ -75,6 +82,18 @@ impl Reached {
         }
     }
 
+    /// Counts the place of a field of an entry.
+    pub fn placed(&mut self, look: &Look, set: usize, entry: usize, offset: usize) {
+        self.addressed.placed(look, set, entry, offset);
+    }
+
+    /// Counts an answer of owner by address, on an accepted map and of a bit that there is.
+    pub fn asked(&mut self, look: &Look, set: usize, address: [usize; 2], owned: &Owned) {
+        if set < 3 {
+            self.addressed.asked(look, set, address, owned);
+        }
+    }
+
     pub fn print(&self) {
         self.kinds.print();
         self.pairs.print();
@@ -83,13 +102,14 @@ impl Reached {
         self.breaks.print();
         self.states.print();
         self.found.iter().for_each(Limits::print);
+        self.addressed.tallies().into_iter().for_each(Tally::print);
     }
 
     pub fn faults(&self) -> Vec<String> {
-        let tallies = [&self.kinds, &self.pairs, &self.broken_off].map(Tally::faults);
+        let tallies = [&self.kinds, &self.pairs, &self.broken_off].into_iter().chain(self.addressed.tallies());
         let [fields, gaps] = &self.found;
         let limits = [&self.limits, &self.breaks, &self.states, fields, gaps].map(Limits::faults);
-        tallies.into_iter().chain(limits).flatten().collect()
+        tallies.map(Tally::faults).chain(limits).flatten().collect()
     }
 }
 

@@ -18,6 +18,11 @@ pub fn entry2(id: u8, mask: u16, memory: u8, rest: &[u8]) -> Vec<u8> {
     bytes
 }
 
+/// 00h of a count 1 to 8 that reserves `memory` bytes.
+pub fn reserved(memory: u8) -> Vec<u8> {
+    entry(0x00, 0, memory, &[])
+}
+
 pub fn caller(number: u32) -> Refusal {
     Refusal { number, entry: None, lane: None }
 }
@@ -32,6 +37,43 @@ pub fn plan(number: u32, lane: usize) -> Refusal {
 
 pub fn refused(refusal: Refusal) -> Answer {
     Answer::Refused(refusal)
+}
+
+/// Place's offset and lowest bit.
+pub fn place_of(
+    count: usize,
+    rw: &[u8],
+    ro: &[u8],
+    set: usize,
+    entry: usize,
+    part: usize,
+    lane: usize,
+) -> Result<(usize, usize), Refusal> {
+    place(count, rw, ro, set, entry, part, lane).map(|at| (at.offset, at.bit))
+}
+
+/// Owner at an offset.
+pub fn owner_of(
+    count: usize,
+    rw: &[u8],
+    ro: &[u8],
+    set: usize,
+    offset: usize,
+    bit: usize,
+) -> Result<Owned, Refusal> {
+    owner(count, rw, ro, set, Byte::Offset(offset), bit)
+}
+
+/// Owner at an address, page and byte.
+pub fn owner_at(
+    count: usize,
+    rw: &[u8],
+    ro: &[u8],
+    set: usize,
+    (page, byte): (usize, usize),
+    bit: usize,
+) -> Result<Owned, Refusal> {
+    owner(count, rw, ro, set, Byte::Address { page, byte }, bit)
 }
 
 /// Owner's answer for a bit of a field (entry, part, lane).

@@ -70,16 +70,19 @@ offset c =
 mul-first : tie.Need-mul-first
 mul-first c = product-fits _ _ (omega (arith, there (c .before))) (narrow c)
 
-mul-t17 : tie.Need-mul-t17
-mul-t17 c = product-fits _ _ (omega (arith, there (c .before .before) .part)) (narrow (c .before))
+mul-offset : tie.Need-mul-offset
+mul-offset c = product-fits _ _ (omega (arith, there (c .before .before) .part)) (narrow (c .before))
 
-add-t18 : tie.Need-add-t18
-add-t18 c = let e = c .before .before in part-fits _ _ _ (offset e) (omega (arith, there (e .before) .part)) (narrow e)
+add-offset : tie.Need-add-offset
+add-offset c = let e = c .before .before in part-fits _ _ _ (offset e) (omega (arith, there (e .before) .part)) (narrow e)
 
-add-t20 : tie.Need-add-t20
-add-t20 c =
+add-offset-2 : tie.Need-add-offset-2
+add-offset-2 c =
     let e = c .before .before in
     place-fits _ _ _ (offset e) (omega (arith, there (e .before) .part)) (narrow e) _ (omega (arith, there (e .before)))
+
+placed-in-requires : tie.Need-placed-in-requires
+placed-in-requires c κs = search needs
 
 returns-3 : tie.Need-returns-3
 returns-3 c =
@@ -90,10 +93,11 @@ returns-3 c =
 
 returns-4 : tie.Need-returns-4
 returns-4 c =
-    let e = c .before .before .before in
+    let e = c .before .before .before .before in
     let k = e .before .before .before in
     let g = k .before .before .before .before .before .before .args in
-    placing-at (g .count) (now (g .rw)) (now (g .ro)) (in-map k) (g .set) (not-false _ (e .before .before .if1 .left)) (e .if2 .left)
+    c .placed-in .ensures
+    ∙ placing-at (g .count) (now (g .rw)) (now (g .ro)) (in-map k) (g .set) (not-false _ (e .before .before .if1 .left)) (e .if2 .left)
 
 pub place-spec : {M : Type 1} → statement M
 place-spec =
@@ -106,8 +110,9 @@ place-spec =
     returns-2
     sub-first
     mul-first
-    mul-t17
-    add-t18
-    add-t20
+    mul-offset
+    add-offset
+    add-offset-2
+    placed-in-requires
     returns-3
     returns-4)

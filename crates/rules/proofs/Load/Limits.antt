@@ -13,7 +13,7 @@ use Rattle.rules.specs.Descriptor.{maskBytes, unlimited, upTo, limited, 
 use Rattle.rules.specs.Load.{start, next, intoRO, answer, Turn, onward, gather, after, onEnd, foldBy, foldOf, walkWithin, entriesWithin, restWithin, stringsWithin, rwWithin, roWithin, bothWithin, mapWithin, Reading, readOf, loadOn, loadOf}
 use Rattle.rules.specs.Bank.{bankCallOn, bankCall, freshOn, freshCall}
 use Rattle.rules.specs.Table.{tableCallOn, tableCall}
-use Rattle.rules.specs.Beside.{placeOn, placeOf, ownerOn, ownerCall, entryAnswerOn, entryAnswer, entryBytesOn, entryBytes, weightOn, weightCall}
+use Rattle.rules.specs.Beside.{placeOn, placeOf, ownerOn, ownerCall, ownerAtOn, ownerAtCall, entryAnswerOn, entryAnswer, entryBytesOn, entryBytes, weightOn, weightCall}
 use Rattle.rules.specs.MapProgram.{outputOn, mapOutput}
 use Rattle.rules.specs.Demands.{tally, AtMost16, AsBefore, readBefore}
 
@@ -108,7 +108,7 @@ module _ (count : ℕ) (first last : List ℕ) (few : AtMost16 count first last)
 
 -- every call is said of what is read
 pub as-before : (count : ℕ) (rw ro : List ℕ) → AtMost16 count rw ro → AsBefore count rw ro
-unfolding loadOf bankCall freshCall tableCall placeOf ownerCall entryAnswer entryBytes weightCall mapOutput
+unfolding loadOf bankCall freshCall tableCall placeOf ownerCall ownerAtCall entryAnswer entryBytes weightCall mapOutput
 as-before count first last few =
     let same = read-same count first last few in
     record {
@@ -120,6 +120,7 @@ as-before count first last few =
       table = λ c t. ap (λ r. tableCallOn r c t) same;
       place = λ s e p i. ap (λ r. placeOn r s e p i) same;
       owner = λ s k q. ap (λ r. ownerOn r s k q) same;
+      owner-at = λ s page byte q. ap (λ r. ownerAtOn r s page byte q) same;
       own-entry = λ e. ap (λ r. entryAnswerOn r e) same;
       own-part = λ e. ap (λ r. entryBytesOn r first last e) same;
       weight = λ b e i. ap (λ r. weightOn r b e i) same;

@@ -7,11 +7,12 @@ use native.Mathlib.Omega.{arith}
 use lib.ListN.{length}
 use lib.Dec.{ltb}
 use borrow.Author.Tests.{ltb-true, ltb-false, lt-ltb, le-ltb}
-use Rattle.rules.specs.Words.{Refusal, plain, rejected, read, placedAt, notPlaced, notOwned}
+use Rattle.rules.specs.Words.{Refusal, plain, Loaded, accepted, rejected, read, notPlaced, notOwned}
 use Rattle.rules.specs.Load.{Map, loadOf, mapOf, readOf}
 use Rattle.rules.specs.Place.{entry, isSet, isStaged, isRW, hasField, heldBy, lengthOf, fieldByte, fieldBit, ownerOf}
 use Rattle.rules.specs.Refuse.{Verdict, passes, refuses, refuseIf, firstOf, check9, checkEntries, orderOf, exists, misdirected, unaccepted, judge}
-use Rattle.rules.specs.Beside.{placed, placeOf, lookedAt, ownedAs, isBit, ownerCall}
+use Rattle.rules.specs.Address.{addresses, offsetOf}
+use Rattle.rules.specs.Beside.{placedIn, placed, placeOf, lookedAt, ownedAs, isBit, ownerCall, isBitAt, ownerAtCall}
 use Rattle.rules.specs.Demands.{Accepted}
 use Rattle.rules.proofs.Basics.Tests.{and-no}
 use Rattle.rules.proofs.Place.AcceptedMap.{GoodMap}
@@ -37,14 +38,14 @@ module _ (count : ℕ) (first last : List ℕ) where
         go : (a b : Verdict) (t : Bool) → firstOf (a ∷ b ∷ refuseIf (not t) (plain 10) ∷ []) ≡ refuses r
             → notPlaced r
             ≡ placed (firstOf (a ∷ b ∷ refuseIf (not (isSet s && t)) (plain 10) ∷ refuseIf (misdirected m (read s e p i)) (plain 11) ∷ refuseIf (unaccepted m (read s e p i)) (plain 12) ∷ []))
-            (placedAt (fieldByte (entry m e) p i) (fieldBit (entry m e) i))
+            (placedIn s (fieldByte (entry m e) p i) (fieldBit (entry m e) i))
         go (refuses x) b t q = let z : x ≡ r = cc in rw z refl
         go passes (refuses x) t q = let z : x ≡ r = cc in rw z refl
         go passes passes true q = let o : _≡_ {A = ℕ} 0 1 = cc in absurd (omega arith)
         go passes passes false q = let z : plain 10 ≡ r = cc in rw (and-no (isSet s), z) refl
 
     module _ (ok : Accepted count first last) (h : hasField (mapOf count first last) e p i ≡ true) where
-      place-is : placeOf count first last s e p i ≡ placed (firstOf (judge m (read s e p i))) (placedAt (fieldByte (entry m e) p i) (fieldBit (entry m e) i))
+      place-is : placeOf count first last s e p i ≡ placed (firstOf (judge m (read s e p i))) (placedIn s (fieldByte (entry m e) p i) (fieldBit (entry m e) i))
       unfolding placeOf
       place-is = rw (order-accepted count first last ok (judge m (read s e p i))) refl
 
@@ -60,7 +61,7 @@ module _ (count : ℕ) (first last : List ℕ) where
 
         pub place-at :
             (isStaged s && not (isRW (mapOf count first last) e)) ≡ false
-            → placedAt (fieldByte (entry (mapOf count first last) e) p i) (fieldBit (entry (mapOf count first last) e) i) ≡ placeOf count first last s e p i
+            → placedIn s (fieldByte (entry (mapOf count first last) e) p i) (fieldBit (entry (mapOf count first last) e) i) ≡ placeOf count first last s e p i
         unfolding judge exists misdirected unaccepted
         place-at t = sym (place-is ∙ rw (l, h, t) refl)
 
@@ -79,6 +80,31 @@ module _ (count : ℕ) (first last : List ℕ) where
       pub owner-is : isBit (mapOf count first last) s k q ≡ true → ownedAs (lookedAt (mapOf count first last) k) (ownerOf (mapOf count first last) s k q) ≡ ownerCall count first last s k q
       unfolding ownerCall
       owner-is h = rw (order-accepted count first last ok (refuseIf (not (isBit m s k q)) (plain 10) ∷ []), h) refl
+
+  -- owner by an address
+
+  module _ (s page byte q : ℕ) where
+    -- of the set: as at its offset
+    pub owner-at-is : offsetOf s page byte < length (addresses s) → ownerCall count first last s (offsetOf s page byte) q ≡ ownerAtCall count first last s page byte q
+    unfolding ownerCall ownerAtCall
+    owner-at-is h = rw (lt-ltb (offsetOf s page byte) (length (addresses s)) h) refl
+
+    -- of no byte of the set: as at an offset that no set has
+    pub owner-at-10 : length (addresses s) ≤ offsetOf s page byte → ownerCall count first last s 256 q ≡ ownerAtCall count first last s page byte q
+    unfolding ownerAtCall
+    owner-at-10 h = go (loadOf count first last) refl
+      where
+        outside : isBitAt m s page byte q ≡ false
+        outside = rw (le-ltb (offsetOf s page byte) (length (addresses s)) h) refl
+
+        go : (x : Loaded) → loadOf count first last ≡ x → ownerCall count first last s 256 q ≡ ownerAtCall count first last s page byte q
+        go (rejected r) x =
+            sym (owner-refused s 256 q r x) ∙ rw (order-refused count first last r x (refuseIf (not (isBitAt m s page byte q)) (plain 10) ∷ [])) refl
+        go (accepted n k c t) x =
+            let ok : Accepted count first last = record { rwCount = n; roCount = k; staged = c; active = t; loads = x } in
+            let far : ltb 256 (lengthOf m s) ≡ false = le-ltb 256 (lengthOf m s) (map-good count first last ok .lengths s) in
+            sym (owner-10 s 256 q ok (rw (far, and-no (isSet s)) refl))
+            ∙ rw (order-accepted count first last ok (refuseIf (not (isBitAt m s page byte q)) (plain 10) ∷ []), outside) refl
 
   -- a byte in the space of an entry lies in each set that holds the entry, and in no other
   module _ (ok : Accepted count first last) (s e k : ℕ) (l : e < length (mapOf count first last .entries))

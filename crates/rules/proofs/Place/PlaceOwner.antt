@@ -13,7 +13,8 @@ use Rattle.rules.specs.Descriptor.{maskBytes}
 use Rattle.rules.specs.Load.{Map, rwEntries, roEntries, mapOf, total}
 use Rattle.rules.specs.Place.{nothing, entry, partsOf, widthOf, isSet, isStaged, isRW, heldBy, lengthOf, fieldByte, fieldBit, covers, ownerOf, Owner, field, gap, Field}
 use Rattle.rules.specs.Refuse.{Verdict, passes, refuses, refuseIf, firstOf, exists, misdirected, unaccepted, judge}
-use Rattle.rules.specs.Beside.{placed, placeOf, coverIndex, lookedAt, ownedAs, owned, isBit, ownerCall}
+use Rattle.rules.specs.Address.{addressOf}
+use Rattle.rules.specs.Beside.{placedIn, placed, placeOf, coverIndex, lookedAt, ownedAs, owned, isBit, ownerCall}
 use Rattle.rules.specs.Demands.{Accepted, PlaceCovers, Spans, OwnerAndPlace}
 use Rattle.rules.proofs.Bank.Places.{named-has-bytes, has-bytes-named}
 use Rattle.rules.proofs.Basics.Tests.{and₂, either, is-true, is-false, both-true}
@@ -40,7 +41,7 @@ module _ (m : Map) (g : GoodMap m) where
       go (inl a) h = let l : e < m .rwCount = rw (is-true (isStaged s) a) at h in rw (is-true (isStaged s) a, lt-ltb e (m .rwCount) l) tt
       go (inr a) h = rw (is-false (isStaged s) a) tt
 
-  field-reads : {s e p i : ℕ} → Field m s e p i → firstOf (judge m (read s e p i)) ≡ passes
+  pub field-reads : {s e p i : ℕ} → Field m s e p i → firstOf (judge m (read s e p i)) ≡ passes
   unfolding exists misdirected unaccepted
   field-reads {s} {e} {p} {i} f =
       judged-passes m (read s e p i)
@@ -78,25 +79,39 @@ module _ (count : ℕ) (first last : List ℕ) (ok : Accepted count first last) 
   g = map-good count first last ok
 
   -- the place call
-  place-is : (s e p i : ℕ) → placeOf count first last s e p i ≡ placed (firstOf (judge m (read s e p i))) (placedAt (fieldByte (entry m e) p i) (fieldBit (entry m e) i))
+  place-is : (s e p i : ℕ) → placeOf count first last s e p i ≡ placed (firstOf (judge m (read s e p i))) (placedIn s (fieldByte (entry m e) p i) (fieldBit (entry m e) i))
   unfolding placeOf m
   place-is s e p i =
       rw (order-open count first last (check9-passes count first last ok) (checkEntries-passes count first last ok) (judge (mapOf count first last) (read s e p i)))
 
-  place-field : (s e p i : ℕ) → Field m s e p i → placeOf count first last s e p i ≡ placedAt (fieldByte (entry m e) p i) (fieldBit (entry m e) i)
+  place-field : (s e p i : ℕ) → Field m s e p i → placeOf count first last s e p i ≡ placedIn s (fieldByte (entry m e) p i) (fieldBit (entry m e) i)
   place-field s e p i f = rw (place-is s e p i, field-reads m g f) refl
 
-  record At (s e p i k q : ℕ) : Type 0 where
+  record At (s e p i k page reg q : ℕ) : Type 0 where
     field : Field m s e p i
     byte : fieldByte (entry m e) p i ≡ k
     bit : fieldBit (entry m e) i ≡ q
+    on : addressOf s k .page ≡ page
+    at : addressOf s k .byte ≡ reg
 
-  field-place : (s e p i k q : ℕ) → placeOf count first last s e p i ≡ placedAt k q → At s e p i k q
-  field-place s e p i k q h = go (firstOf (judge m (read s e p i))) refl (sym (place-is s e p i) ∙ h)
+  field-place : (s e p i k page reg q : ℕ) → placeOf count first last s e p i ≡ placedAt k page reg q → At s e p i k page reg q
+  field-place s e p i k page reg q h = go (firstOf (judge m (read s e p i))) refl (sym (place-is s e p i) ∙ h)
     where
-      go : (v : Verdict) → firstOf (judge m (read s e p i)) ≡ v → placed v (placedAt (fieldByte (entry m e) p i) (fieldBit (entry m e) i)) ≡ placedAt k q → At s e p i k q
-      go passes x y = record { field = reads-field m g s e p i x; byte = cc; bit = cc }
+      go : (v : Verdict) → firstOf (judge m (read s e p i)) ≡ v → placed v (placedIn s (fieldByte (entry m e) p i) (fieldBit (entry m e) i)) ≡ placedAt k page reg q → At s e p i k page reg q
+      go passes x y = record { field = reads-field m g s e p i x; byte = cc; bit = cc; on = cc; at = cc }
       go (refuses r) x y = let o : _≡_ {A = ℕ} 0 1 = cc in absurd (omega arith)
+
+  -- a field that is placed, and its address
+  module _ (s e p i k page reg q : ℕ) (h : placeOf count first last s e p i ≡ placedAt k page reg q) where
+    pub placed-field : Field (mapOf count first last) s e p i
+    unfolding m
+    placed-field = field-place s e p i k page reg q h .field
+
+    pub placed-set : s < 3
+    placed-set = has-bytes-named s (placed-field .set)
+
+    pub placed-address : (addressOf s k .page ≡ page) × (addressOf s k .byte ≡ reg)
+    placed-address = let a = field-place s e p i k page reg q h in (a .on, a .at)
 
   -- the owner call
   owner-call : (s k q : ℕ) → ownerCall count first last s k q ≡ owned (firstOf (refuseIf (not (isBit m s k q)) (plain 10) ∷ [])) (ownedAs (lookedAt m k) (ownerOf m s k q))
@@ -124,7 +139,7 @@ module _ (count : ℕ) (first last : List ℕ) (ok : Accepted count first last) 
   place-on : (s e p i k q : ℕ) → PlaceCovers count first last s e p i k q → On s e p i k q
   unfolding m
   place-on s e p i k q c =
-      let a : At s e p i k (c .bit) = field-place s e p i k (c .bit) (c .at) in
+      let a : At s e p i k (c .page) (c .byte) (c .bit) = field-place s e p i k (c .page) (c .byte) (c .bit) (c .at) in
       let f : Field m s e p i = a .field in
       let hk : k < lengthOf m s = omega (arith, a .byte, in-entry m g f, g .ends s e (f .ent)) in
       let hq : q < 8 = omega (arith, a .bit, c .top, in-byte m g f) in
@@ -156,7 +171,14 @@ module _ (count : ℕ) (first last : List ℕ) (ok : Accepted count first last) 
   unfolding m
   covered-place s e p i k q f c =
       let x : Covers m e p i k q = covers-says c in
-      record { bit = fieldBit (entry m e) i; at = place-field s e p i f ∙ ap (λ n. placedAt n (fieldBit (entry m e) i)) (x .byte); low = x .low; top = x .top }
+      record {
+        page = addressOf s k .page;
+        byte = addressOf s k .byte;
+        bit = fieldBit (entry m e) i;
+        at = place-field s e p i f ∙ ap (λ n. placedIn s n (fieldBit (entry m e) i)) (x .byte);
+        low = x .low;
+        top = x .top;
+      }
 
   owner-place : (s k q e p i n : ℕ) → ownerCall count first last s k q ≡ ownedBy e p i n → PlaceCovers count first last s e p i k q
   owner-place s k q e p i n h = go (either (isBit m s k q))
@@ -190,7 +212,7 @@ module _ (count : ℕ) (first last : List ℕ) (ok : Accepted count first last) 
                   ∙ ap (ownedAs (lookedAt m k)) (owner-none m g s k q (named-has-bytes s hs) (λ e p i f c. h .0 e p i (covered-place s e p i k q f c)))
                   ∙ ap noOwner (looks-at (h .1 .covers) ∙ sym (h .1 .counts)),
             );
-        place-owned = λ s e p i k q h. on-owner s e p i k q (place-on s e p i k q (lowest s e p i k q h));
+        place-owned = λ s e p i k page reg q h. on-owner s e p i k q (place-on s e p i k q (lowest s e p i k page reg q h));
         one-space = λ s k h. (coverIndex (m .entries) k, set-covered count first last s k ok h);
         no-other = λ e e′ k c c′. sym (index-is m g c) ∙ index-is m g c′;
         no-space = λ e k h c. omega (arith, h, c .low, c .top);
@@ -215,7 +237,7 @@ module _ (count : ℕ) (first last : List ℕ) (ok : Accepted count first last) 
         ro-extras = filled-extras (maskBytes count) last (roEntries count first last) (ro-filled count first last ok);
       }
     where
-      lowest : (s e p i k q : ℕ) → placeOf count first last s e p i ≡ placedAt k q → PlaceCovers count first last s e p i k q
-      lowest s e p i k q h =
-          let a : At s e p i k q = field-place s e p i k q h in
-          record { bit = q; at = h; low = omega arith; top = omega (arith, width-pos (widthOf (entry m e)) (field-width m g (a .field))) }
+      lowest : (s e p i k page reg q : ℕ) → placeOf count first last s e p i ≡ placedAt k page reg q → PlaceCovers count first last s e p i k q
+      lowest s e p i k page reg q h =
+          let a : At s e p i k page reg q = field-place s e p i k page reg q h in
+          record { page = page; byte = reg; bit = q; at = h; low = omega arith; top = omega (arith, width-pos (widthOf (entry m e)) (field-width m g (a .field))) }

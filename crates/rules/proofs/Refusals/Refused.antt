@@ -7,17 +7,20 @@ use Prim.Native.Nat.{ℕ, _<_}
 use native.Mathlib.Omega.{arith}
 use lib.IntN.{ℤ}
 use lib.ListN.{length}
-use lib.Dec.{T, ltb, eqb}
-use Rattle.rules.specs.Words.{Refusal, plain, Loaded, accepted, rejected, Call, select, write, read, byteWrite, byteRead, publish, apply, saysYes, number, refused, placedAt, notPlaced, notOwned}
+use lib.Dec.{T, ltb, eqb, ltb→lt, lt→ltb}
+use Rattle.rules.specs.Words.{Refusal, plain, Loaded, accepted, rejected, Call, select, write, read, byteWrite, byteRead, publish, apply, saysYes, number, refused, notPlaced, notOwned}
 use Rattle.rules.specs.Load.{sized, stringsOf, loadOf, Map, mapOf, readOf}
 use Rattle.rules.specs.Place.{entry, isSet, isLane, lengthOf, fieldByte, fieldBit, Owner, field, gap, ownerOf}
 use Rattle.rules.specs.Accept.{weightOf}
 use Rattle.rules.specs.Refuse.{Verdict, passes, refuses, refuseIf, firstOf, decide, check9, refusalOf, checkEntries, orderOf}
 use Rattle.rules.specs.Bank.{Bank, numberIn, bankDoes, bankCall, freshened, freshCall}
-use Rattle.rules.specs.Beside.{placed, placeOf, lookedAt, ownedAs, owned, isBit, ownerCall, answered, entryVerdict, entryAnswer, isWeighed, weightCall}
+use Rattle.rules.specs.Address.{addresses, offsetOf}
+use Rattle.rules.specs.Beside.{placedIn, placed, placeOf, lookedAt, ownedAs, owned, isBit, ownerCall, isBitAt, ownerAtCall, answered, entryVerdict, entryAnswer, isWeighed, weightCall}
 use Rattle.rules.specs.Conditions.{Rule, gives, First, Lane, planRules, callRules, stringRules, bankRules}
-use Rattle.rules.specs.Demands.{Accepted}
+use Rattle.rules.specs.Demands.{Accepted, InSet}
 use Rattle.rules.proofs.Basics.Facts.{lt-says, eq-says, and-says₃}
+use Rattle.rules.proofs.Basics.Tests.{and₂, and₄, both-true}
+use Rattle.rules.proofs.Place.Addresses.{gives-set, given-short, given-offset, offset-given}
 use Rattle.rules.proofs.Refusals.Firsts.{Says, none, also, all-append, refuse-not-says}
 use Rattle.rules.proofs.Refusals.Orders.{bank-order-passes}
 use Rattle.rules.proofs.Refusals.OrderRules.{lane-says, judge-says, refusal-of, order-says, bank-says}
@@ -91,7 +94,7 @@ module _ (count : ℕ) (first last : List ℕ) where
       ↔ First (stringRules count first last (callRules m (read s e p i))) x
   unfolding placeOf
   place-says s e p i =
-      answer-says notPlaced (λ x y h. cc) (λ v. placed v (placedAt (fieldByte (entry m e) p i) (fieldBit (entry m e) i))) (λ r. refl) _
+      answer-says notPlaced (λ x y h. cc) (λ v. placed v (placedIn s (fieldByte (entry m e) p i) (fieldBit (entry m e) i))) (λ r. refl) _
       (order-says count first last (judge-says m (read s e p i)))
       (λ _ x h. let o : _≡_ {A = ℕ} 0 1 = cc in omega arith)
 
@@ -107,6 +110,34 @@ module _ (count : ℕ) (first last : List ℕ) where
     where
       bit : T (isBit m s k q) ↔ ((s < 3) × (k < lengthOf m s) × (q < 8))
       bit = and-says₃ (isSet s) (ltb k (lengthOf m s)) (ltb q 8) (lt-says s 3) (lt-says k _) (lt-says q 8)
+
+  pub owner-at-says :
+      (s page byte q : ℕ) (x : Refusal)
+      → (ownerAtCall count first last s page byte q ≡ notOwned x)
+      ↔ First (stringRules count first last (gives (plain 10) (¬ (InSet m s page byte × (q < 8))) ∷ [])) x
+  unfolding ownerAtCall
+  owner-at-says s page byte q =
+      answer-says notOwned (λ x y h. cc) (λ v. owned v (ownedAs (lookedAt m k) (ownerOf m s k q))) (λ r. refl) _
+      (order-says count first last (also (refuse-not-says (isBitAt m s page byte q) (plain 10) bit) none))
+      (λ _. owner-answers (lookedAt m k) (ownerOf m s k q))
+    where
+      k : ℕ
+      k = offsetOf s page byte
+
+      bit : T (isBitAt m s page byte q) ↔ (InSet m s page byte × (q < 8))
+      bit = (
+        λ t.
+            let (a, b, c, d) = and₄ (ltb k (length (addresses s))) (isSet s) (ltb k (lengthOf m s)) (ltb q 8) t in
+            (record { offset = k; given = offset-given s page byte (ltb→lt _ _ b) (ltb→lt _ _ a); short = ltb→lt _ _ c }, ltb→lt _ _ d),
+        λ z.
+            let h = z .0 .given in
+            let e : k ≡ z .0 .offset = given-offset s (z .0 .offset) page byte h in
+            let within : k < length (addresses s) = omega (arith, given-short s (z .0 .offset) page byte h) in
+            let short : k < lengthOf m s = omega (arith, z .0 .short) in
+            both-true (ltb k (length (addresses s))) _ (lt→ltb _ _ within)
+            (both-true (isSet s) _ (lt→ltb _ _ (gives-set s (z .0 .offset) page byte h))
+            (both-true (ltb k (lengthOf m s)) _ (lt→ltb _ _ short) (lt→ltb _ _ (z .1)))),
+      )
 
   pub own-entry-says :
       (e : ℕ) (x : Refusal)

@@ -1,4 +1,4 @@
--- A small module on which both machines are run by computing. It also shows that the premises of demand 3 and of notes 7 and 8 can be met.
+-- A small module on which both machines are run by computing. It also shows that the premises of demand 3 and of notes 2, 7 and 8 can be met.
 use mathlib.Core.Path.{_≡_, refl, sym, _∙_}
 use mathlib.Core.List.{List, [], _∷_, map}
 use mathlib.Core.Bool.{true, false}
@@ -6,20 +6,23 @@ use Prim.Native.Nat.{ℕ, _+_}
 use native.Mathlib.Omega.{arith}
 use lib.IntN.{pos, negsuc}
 use lib.ListN.{take, replicate, length-replicate}
-use Rattle.rules.specs.Words.{plain, atLane, State, ended, accepted, Call, select, write, read, byteWrite, byteRead, publish, apply, Answer, saysYes, number, refused}
+use Rattle.rules.specs.Words.{plain, atLane, State, ended, accepted, Call, select, write, read, byteWrite, byteRead, publish, apply, Answer, saysYes, number, refused, placedAt, ownedBy}
 use Rattle.rules.specs.Numbers.{sum, any, lowest}
 use Rattle.rules.specs.Parameter.{rowOf}
 use Rattle.rules.specs.Descriptor.{maskBytes, highFirst, codesOf, byteOf, refuse, lengthChecks, contentChecks, unlimited, decodeWithin}
-use Rattle.rules.specs.Load.{start, intoRO, entryNumber, passOf, foldBy, foldOf, loadOf, total, bothWithin, entriesWithin, mapWithin, roWithin, rwWithin, restWithin, stringsWithin, walkWithin}
-use Rattle.rules.specs.Place.{partsOf, widthOf, signedOf, heldBy, lengthOf, firstOwner, ownerOf}
+use Rattle.rules.specs.Load.{start, intoRO, entryNumber, passOf, foldBy, foldOf, loadOf, mapOf, total, bothWithin, entriesWithin, mapWithin, roWithin, rwWithin, restWithin, stringsWithin, walkWithin}
+use Rattle.rules.specs.Place.{entry, partsOf, widthOf, signedOf, heldBy, lengthOf, firstOwner, ownerOf}
 use Rattle.rules.specs.Accept.{within, inMask, takes, accepts, toBits, fromBits}
 use Rattle.rules.specs.Refuse.{check9, check8, checkEntries, exists, misdirected, unaccepted, judge, atLowest, bankOrder, orderOf}
 use Rattle.rules.specs.Layout.{bankSize, hasBytes, setStart, appSelStart, appSelAt}
 use Rattle.rules.specs.Bank.{Bank, getField, putField, numberIn, withNumber, fieldBits, bankLacksApp, bankCopies, bankHoldsBad, bankPlan, loop, copyField, applyBank, bankDoes, bankCall, freshBank, freshCall, bankMakes}
 use Rattle.rules.specs.Table.{byteFrom, tableLacksApp, tableCopies, tableHoldsBad, tablePlan, tableDoes, tableCall, tableMakes}
 use Rattle.rules.specs.Machine.{call, run}
-use Rattle.rules.specs.Demands.{Accepted, bankRun, tableRun, ListAgrees, comesTo, AtMost16, AsBefore, Break, further}
+use Rattle.rules.specs.Address.{lineOf, bytesFrom, addressOf}
+use Rattle.rules.specs.Beside.{placeOf, ownerAtCall}
+use Rattle.rules.specs.Demands.{Accepted, FreshAccepted, bankRun, tableRun, ListAgrees, comesTo, AtMost16, AsBefore, Break, further}
 use Rattle.rules.proofs.Lists.Lists.{lists-agree}
+use Rattle.rules.proofs.Lists.Told.{told-after-fresh}
 use Rattle.rules.proofs.Load.Limits.{as-before}
 use Rattle.rules.proofs.Load.TakenUp.{taken-up}
 
@@ -134,6 +137,26 @@ example-table = refl
 -- demand 3 of this module, bank and list: its premises are met
 pub example-agrees : ListAgrees 2 rwString roString bank (map call calls)
 example-agrees = lists-agree 2 rwString roString bank example-accepted (rw (length-replicate {A = ℕ} (bankSize + 1) 0xA5) (omega arith)) (map call calls)
+
+-- note 2: lane 6 of 12h is at offset 21, the first byte of the active set's overflow page; with lane 5, at offset 20, the page ends
+example-fresh : FreshAccepted 2 rwString roString bank
+unfolding loadOf freshCall bankSize bankOrder check9 check8 checkEntries stringsWithin restWithin walkWithin foldOf foldBy decodeWithin refuse lengthChecks rowOf maskBytes highFirst codesOf contentChecks byteOf
+example-fresh = record { rwCount = 4; roCount = 1; staged = 16; active = 24; fresh = refl }
+
+pub example-placed : placeOf 2 rwString roString 2 4 0 6 ≡ placedAt 21 0x19 152 0
+unfolding placeOf orderOf check9 checkEntries stringsWithin restWithin walkWithin foldOf foldBy decodeWithin refuse lengthChecks rowOf maskBytes highFirst codesOf contentChecks byteOf judge exists misdirected unaccepted mapWithin bothWithin rwWithin roWithin entriesWithin total partsOf widthOf lineOf bytesFrom addressOf
+example-placed = refl
+
+example-width : widthOf (entry (mapOf 2 rwString roString) 4) ≡ 8
+unfolding stringsWithin restWithin walkWithin foldOf foldBy decodeWithin refuse lengthChecks rowOf maskBytes highFirst codesOf contentChecks byteOf mapWithin bothWithin rwWithin roWithin entriesWithin total widthOf
+example-width = refl
+
+pub example-told :
+    (ownerAtCall 2 rwString roString 2 0x19 152 7 ≡ ownedBy 4 0 6 5)
+    × (bankCall 2 rwString roString (read 2 4 0 6) (bankRun 2 rwString roString bank (map call calls) .1) .0 ≡ number (tableRun 2 rwString roString (map call calls) .1 .numbers 2 4 0 6))
+example-told =
+    let (owner, reads) = told-after-fresh 2 rwString roString bank example-fresh (map call calls) .field 2 4 0 6 21 0x19 152 0 example-placed in
+    (owner 7 (λ z. omega arith) (omega arith) (omega (arith, example-width)), reads)
 
 -- walks without a limit come to 4 RW entries, and then to 1 RO entry
 abbrev middle : State
