@@ -114,7 +114,7 @@ pub fn owner(count: usize, rw: &[u8], ro: &[u8], set: usize, offset: usize, bit:
     owned(cover(count, rw, ro, offset), set, offset, bit)
 }
 
-// Owner by an address, the page and byte that Table 4-1 gives an offset of the set. It doesn't call `owner`, which with one caller is
+// Owner by an address, the page and byte that Table 4-1 gives an offset of the set. A call of `owner` here would keep `owner` from being
 // inlined in its export.
 pub fn owner_at(
     count: usize,

@@ -26,7 +26,7 @@ demand3 = lists-agree
 pub demand3-after-fresh : Demand3-after-fresh
 demand3-after-fresh = lists-agree-after-fresh
 
--- address and offset are one to one; owner at the address that place gives a field tells that field, and read gives the plain table's number
+-- address and offset are one to one; owner at the address that place gives a field, if any, tells that field, and read gives the plain table's number
 pub note2 : Note2
 note2 = record { addresses = one-to-one; owners = at-addresses; told = told-after-fresh }
 
