@@ -1,19 +1,19 @@
 -- The rows of the code are the lines of Table 4-1, at every set; address and offset in the code's terms; and owner by an address.
-use mathlib.Core.Path.{_≡_, refl, sym, _∙_}
+use mathlib.Core.Path.{_≡_, refl}
 use mathlib.Core.Bool.{Bool, true, false, _&&_, cond}
 use mathlib.Core.List.{List, [], _∷_}
 use Prim.Native.Nat.{ℕ, zero, suc, _+_, _-_, _≤_, _<_}
 use native.Mathlib.Numerals.{add-one}
 use native.Mathlib.Omega.{arith}
 use lib.ListN.{length, getD}
-use lib.Dec.{T, ltb, leb, eqb, ltb→lt}
+use lib.Dec.{ltb, leb, eqb, ltb→lt}
 use mir.Val.{Fits}
 use mir.Syntax.{w64}
 use borrow.Author.Tests.{ltb-true, ltb-false, lt-ltb, le-ltb}
-use Rattle.rules.specs.Address.{Range as TableRange, Line as TableLine, lineOf, sizeOf, addressesIn, addressIn, indexOf, addresses, addressOf, offsetOf}
+use Rattle.rules.specs.Address.{Range as TableRange, Line as TableLine, lineOf, sizeOf, addressesIn, indexOf, addresses, addressOf, offsetOf}
 use Rattle.rules.specs.Beside.{ownerCall, ownerAtCall}
 use Rattle.rules.proofs.Table.Rows.{all, looked-up}
-use Rattle.rules.proofs.Place.Addresses.{inside, Inside, inside-says, addresses-length, address-main, address-overflow, address-past, index-main, index-overflow, index-none}
+use Rattle.rules.proofs.Place.Addresses.{Inside, inside-says, addresses-length, address-main, address-overflow, address-past, index-main, index-overflow, index-none}
 use Rattle.rules.proofs.Place.PlaceCalls.{owner-at-is, owner-at-10}
 use Rattle.placement.specs.declared.address.Range.{Range}
 use Rattle.placement.specs.declared.address.Line.{Line}

@@ -2,18 +2,17 @@
 -- number that the plain table holds.
 use mathlib.Core.Path.{_≡_, refl, ap, _∙_}
 use mathlib.Core.List.{List, append-nil}
-use Prim.Native.Nat.{ℕ, suc, _+_, _≤_, _<_}
+use Prim.Native.Nat.{ℕ, suc, _≤_}
 use native.Mathlib.Omega.{arith}
 use lib.ListN.{length}
-use Rattle.rules.specs.Words.{read, number, placedAt, ownedBy}
-use Rattle.rules.specs.Load.{Map, mapOf}
-use Rattle.rules.specs.Place.{entry, widthOf, Field}
+use Rattle.rules.specs.Words.{read, number}
+use Rattle.rules.specs.Load.{mapOf}
+use Rattle.rules.specs.Place.{Field}
 use Rattle.rules.specs.Layout.{bankSize}
 use Rattle.rules.specs.Refuse.{judge}
 use Rattle.rules.specs.Bank.{Bank, numberIn, bankPlan, bankDoes, bankCall}
 use Rattle.rules.specs.Machine.{Command}
-use Rattle.rules.specs.Beside.{placeOf, ownerAtCall}
-use Rattle.rules.specs.Demands.{Accepted, FreshAccepted, ListAgrees, bankRun, tableRun, Told}
+use Rattle.rules.specs.Demands.{Accepted, FreshAccepted, ListAgrees, bankRun, Told}
 use Rattle.rules.proofs.Load.Walks.{map-good, check9-passes, checkEntries-passes}
 use Rattle.rules.proofs.Place.Fields.{field-holds}
 use Rattle.rules.proofs.Place.PlaceOwner.{field-reads, placed-field}
@@ -31,7 +30,6 @@ read-number :
     → bankCall count first last (read s e p i) b .0 ≡ number (numberIn (mapOf count first last) b s e p i)
 unfolding bankCall bankPlan bankDoes
 read-number count first last b s e p i ok size f =
-    let m : Map = mapOf count first last in
     rw (
       append-nil (judge (mapOf count first last) (read s e p i)),
       bank-order-open count first last (check9-passes count first last ok) (checkEntries-passes count first last ok) (length b) (judge (mapOf count first last) (read s e p i)) size,

@@ -3,17 +3,17 @@ use mathlib.Core.Path.{_≡_, refl, sym, ap, _∙_}
 use mathlib.Core.Logic.{_⊎_, inl, inr}
 use mathlib.Core.Bool.{not}
 use mathlib.Core.List.{List, [], _∷_}
-use Prim.Native.Nat.{ℕ, suc, _<_}
+use Prim.Native.Nat.{ℕ, suc}
 use native.Mathlib.Omega.{arith}
 use lib.ListN.{length}
 use lib.Dec.{T, ltb, ltb→lt}
-use Rattle.rules.specs.Words.{plain, placedAt, ownedBy, noOwner, notOwned}
+use Rattle.rules.specs.Words.{plain, placedAt, ownedBy, notOwned}
 use Rattle.rules.specs.Load.{Map, mapOf}
-use Rattle.rules.specs.Place.{isSet, lengthOf, ownerOf}
+use Rattle.rules.specs.Place.{isSet}
 use Rattle.rules.specs.Refuse.{refuseIf}
-use Rattle.rules.specs.Address.{Address, addresses, addressOf, offsetOf, HasAddress}
-use Rattle.rules.specs.Beside.{placeOf, isBit, ownerCall, isBitAt, ownerAtCall}
-use Rattle.rules.specs.Demands.{Accepted, InSet, PlaceCovers, LooksAt, OwnerAndPlace, NoAddress, PlaceCoversAt, OwnerAtAddress}
+use Rattle.rules.specs.Address.{Address, addresses, offsetOf, HasAddress}
+use Rattle.rules.specs.Beside.{placeOf, ownerCall, isBitAt, ownerAtCall}
+use Rattle.rules.specs.Demands.{Accepted, PlaceCovers, OwnerAndPlace, NoAddress, PlaceCoversAt, OwnerAtAddress}
 use Rattle.rules.proofs.Basics.Tests.{and₃, either, is-false}
 use Rattle.rules.proofs.Refusals.Orders.{order-accepted}
 use Rattle.rules.proofs.Place.Addresses.{gives-set, given-address, given-short, given-offset, offset-given, gives-some, some-given, one-to-one}

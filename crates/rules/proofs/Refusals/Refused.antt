@@ -19,7 +19,7 @@ use Rattle.rules.specs.Beside.{placedIn, placed, placeOf, lookedAt, owne
 use Rattle.rules.specs.Conditions.{Rule, gives, First, Lane, planRules, callRules, stringRules, bankRules}
 use Rattle.rules.specs.Demands.{Accepted, InSet}
 use Rattle.rules.proofs.Basics.Facts.{lt-says, eq-says, and-says₃}
-use Rattle.rules.proofs.Basics.Tests.{and₂, and₄, both-true}
+use Rattle.rules.proofs.Basics.Tests.{and₄, both-true}
 use Rattle.rules.proofs.Place.Addresses.{gives-set, given-short, given-offset, offset-given}
 use Rattle.rules.proofs.Refusals.Firsts.{Says, none, also, all-append, refuse-not-says}
 use Rattle.rules.proofs.Refusals.Orders.{bank-order-passes}
