@@ -17,36 +17,37 @@ mod bank; // a field of a bank
 mod copy; // apply's copy
 mod field; // a field of a byte
 mod gate; // 9, 8 and the checks of the entries
+mod judge; // 14 in an entry
+mod lanes; // masks of lanes
 mod number; // numbers and bits
-mod plan; // 13 and 14
+mod plan; // 13, 14 and the bits that are copied
 
 use crate::accept::accepts;
 use crate::bank::app_sel_at;
 use crate::bank::byte_of;
 use crate::bank::read_field;
 use crate::bank::write_field;
-use crate::copy::copy_all;
+use crate::copy::copy_planned;
 use crate::gate::Byte;
 use crate::gate::Gate;
 use crate::gate::admit;
 use crate::gate::admit_byte;
 use crate::gate::admit_field;
+use crate::lanes::lowest_lane;
 use crate::number::bits_of;
 use crate::number::number_of;
 use crate::number::weight_of;
 use crate::number::wide;
 use crate::plan::Chosen;
-use crate::plan::lowest_bad;
-use crate::plan::lowest_lacking;
-use crate::plan::wanted;
+use crate::plan::lacking;
+use crate::plan::plan_all;
 use descriptor::Found;
 use descriptor::Named;
-use descriptor::entries;
 use descriptor::limits;
+use descriptor::load;
 use rules::Answer;
 use rules::BANK_SIZE;
 use rules::Call;
-use rules::ENTRY_LIMIT;
 use rules::Loaded;
 use rules::Refusal;
 
@@ -312,8 +313,7 @@ fn apply_within(
     ensures answer { λ r. ⌜ r ≡ bankCall count (now (rw .entry)) (now (ro .entry)) (Call.Apply set lanes) (now (bank .entry)) .0 ⌝ }
     ensures after { λ _. ⌜ now (bank .exit) ≡ bankCall count (now (rw .entry)) (now (ro .entry)) (Call.Apply set lanes) (now (bank .entry)) .1 ⌝ }
 {
-    let mut list = [[0; 9]; ENTRY_LIMIT];
-    let loaded = entries(count, rw, ro, &mut list);
+    let loaded = load(count, rw, ro);
     match loaded {
         Loaded::Refused(r) => Answer::Refused(r),
         Loaded::Accepted {
@@ -329,16 +329,16 @@ fn apply_within(
                 return Answer::Refused(Refusal::Plain(11));
             }
             let chosen = Chosen { count, set, lanes };
-            let lacking = lowest_lacking(chosen, bank);
-            if lacking != 9 {
-                return Answer::Refused(Refusal::AtLane(13, lacking));
+            let none = lowest_lane(lacking(chosen, bank));
+            if none != 0 {
+                return Answer::Refused(Refusal::AtLane(13, none));
             }
-            let apps = wanted(chosen, bank);
-            let bad = lowest_bad(chosen, apps, &list, rw_count, bank);
-            if bad != 9 {
+            let mut plan = [0; 264];
+            let bad = lowest_lane(plan_all(chosen, rw, rw_count, bank, &mut plan));
+            if bad != 0 {
                 return Answer::Refused(Refusal::AtLane(14, bad));
             }
-            copy_all(chosen, apps, &list, rw_count, bank);
+            copy_planned(set, &plan, bank);
             Answer::Yes
         }
     }

@@ -1,74 +1,27 @@
-// The host's plan, at apply: 13 and 14, each with the lowest lane that it holds of.
+// The host's plan, at apply: 13 and 14, each as a mask of the lanes that it holds of, and the bits that are copied.
 ghost use mathlib.Core.Path.{_≡_};
-ghost use Prim.Native.Nat.{_-_, _^_, _≤_, _<_};
-ghost use mathlib.Core.List.{[]};
-ghost use lib.IntN.{pos};
-ghost use lib.ListN.{length, getD};
-ghost use Rattle.rules.specs.Descriptor.{isApp, hasApp, entryLimit};
+ghost use Prim.Native.Nat.{_*_, _^_, _≤_, _<_};
+ghost use lib.ListN.{length};
+ghost use Rattle.rules.specs.Descriptor.{isApp};
 ghost use Rattle.rules.specs.Layout.{bankSize};
-ghost use Rattle.rules.specs.Refuse.{chooses};
 ghost use Rattle.rules.specs.Bank.{appSelIn};
-ghost use Rattle.control_set.specs.Plan.{Asked, Narrow, Listed, Spread, LowCodes, Wants, joinedBy, fieldsBy, acceptsBits, spansEvery, acceptsEvery, copiesBy, lacksBy, badAt, badIn, badAmong, Least};
-use crate::accept::accepts;
+ghost use Rattle.control_set.specs.Lanes.{Lanes, NoLane};
+ghost use Rattle.control_set.specs.Plan.{Asked, Spread, rwEntry, Walk, lacksBy, copiesBy, refusedAmong, Cached, Laid, Parts, Planned};
 use crate::bank::app_sel_at;
-use crate::bank::read_field;
-use crate::number::number_of;
-use descriptor::columns::CODED;
-use descriptor::columns::CODES;
-use descriptor::columns::HIGH;
-use descriptor::columns::LOW;
-use descriptor::columns::MASK;
-use descriptor::columns::OFFSET;
-use descriptor::columns::PARTS;
-use descriptor::columns::SIGNED;
-use descriptor::columns::WIDTH;
-use rules::ENTRY_LIMIT;
+use crate::judge::refused_in;
+use crate::lanes::has_lane;
+use crate::lanes::spread_all;
+use crate::lanes::with_lane;
+use descriptor::CLASSES;
+use descriptor::Named;
+use descriptor::SHAPES;
+use descriptor::entry_read;
 
 // What apply is asked: the count, a staged set, and lanes, bit i − 1 for lane i.
 pub struct Chosen {
     pub count: usize,
     pub set: usize,
     pub lanes: u8,
-}
-
-// What apply needs of an entry: its application mask, where its fields lie, whether their numbers are signed, and the accepted
-// numbers, from low to high and, where there is a code mask, those with a bit in `codes`.
-pub struct Fields {
-    pub mask: usize,
-    pub offset: usize,
-    pub parts: usize,
-    pub width: usize,
-    pub signed: bool,
-    pub low: i64,
-    pub high: i64,
-    pub coded: bool,
-    pub codes: usize,
-}
-
-// By its line in a list.
-pub fn fields_at(list: &[[u16; 9]; ENTRY_LIMIT], entry: usize) -> Fields
-    requires { ⌜ (entry < entryLimit) × Narrow (getD (now list) entry []) ⌝ }
-    ensures { λ r. ⌜ r ≡ fieldsBy (getD (now (list .entry)) entry []) ⌝ }
-{
-    let line = list[entry];
-    Fields {
-        mask: line[MASK] as usize,
-        offset: line[OFFSET] as usize,
-        parts: line[PARTS] as usize,
-        width: line[WIDTH] as usize,
-        signed: line[SIGNED] == 1,
-        low: (line[LOW] as i64) - 128,
-        high: (line[HIGH] as i64) - 128,
-        coded: line[CODED] == 1,
-        codes: line[CODES] as usize,
-    }
-}
-
-fn is_chosen(lanes: u8, lane: usize) -> bool
-    requires { ⌜ (1 ≤ lane) × (lane ≤ 8) ⌝ }
-    ensures { λ r. ⌜ r ≡ chooses lanes lane ⌝ }
-{
-    (lanes >> (lane - 1)) & 1 == 1
 }
 
 fn is_app(count: usize, app: usize) -> bool
@@ -85,196 +38,127 @@ fn app_of(set: usize, lane: usize, bank: &[u8]) -> usize
     bank[app_sel_at(set, lane)] as usize
 }
 
-// Bit n of a mask means AppSel n + 1.
-fn has_app(count: usize, mask: usize, app: usize) -> bool
-    requires { ⌜ count ≤ 15 ⌝ }
-    ensures { λ r. ⌜ r ≡ hasApp count mask app ⌝ }
-{
-    if is_app(count, app) {
-        return (mask >> (app - 1)) & 1 == 1;
-    }
-    false
-}
-
-// Whether apply copies a lane's fields of an entry with this application mask.
-pub fn copies(chosen: Chosen, mask: usize, lane: usize, bank: &[u8]) -> bool
-    requires { ⌜ Asked chosen (now bank) × (1 ≤ lane) × (lane ≤ 8) ⌝ }
-    ensures { λ r. ⌜ r ≡ copiesBy chosen mask (now (bank .entry)) lane ⌝ }
-{
-    if is_chosen(chosen.lanes, lane) {
-        return has_app(chosen.count, mask, app_of(chosen.set, lane, bank));
-    }
-    false
-}
-
 // 13: whether a chosen lane's AppSel is 0 or above the count.
 fn lacks_app(chosen: Chosen, lane: usize, bank: &[u8]) -> bool
     requires { ⌜ Asked chosen (now bank) × (1 ≤ lane) × (lane ≤ 8) ⌝ }
     ensures { λ r. ⌜ r ≡ lacksBy chosen (now (bank .entry)) lane ⌝ }
 {
-    is_chosen(chosen.lanes, lane) & !is_app(chosen.count, app_of(chosen.set, lane, bank))
+    has_lane(chosen.lanes, lane) & !is_app(chosen.count, app_of(chosen.set, lane, bank))
 }
 
-// The lowest such lane, else 9.
-pub fn lowest_lacking(chosen: Chosen, bank: &[u8]) -> usize
+// All such lanes.
+pub fn lacking(chosen: Chosen, bank: &[u8]) -> u8
     requires { ⌜ Asked chosen (now bank) ⌝ }
-    ensures { λ r. ⌜ Least 9 r (lacksBy chosen (now (bank .entry))) ⌝ }
+    ensures { λ r. ⌜ Lanes 9 (lacksBy chosen (now (bank .entry))) r ⌝ }
 {
+    let mut lanes = 0;
     let mut lane = 1;
     while lane < 9 {
-        if lacks_app(chosen, lane, bank) {
-            return lane;
-        }
+        let lacks = lacks_app(chosen, lane, bank);
+        lanes = with_lane(lanes, lane, lacks);
         lane += 1;
     }
-    9
+    lanes
 }
 
-// A mask with the AppSel of a lane too, if the lane is chosen and has one.
-fn joined(chosen: Chosen, apps: usize, lane: usize, bank: &[u8]) -> usize
-    requires { ⌜ Asked chosen (now bank) × (1 ≤ lane) × (lane ≤ 8) ⌝ }
-    ensures { λ r. ⌜ r ≡ joinedBy chosen (now (bank .entry)) lane apps ⌝ }
+// Whether apply copies a lane's fields of an entry with this application mask, bit n of which means AppSel n + 1. A chosen lane has an
+// AppSel of 1 to 15.
+fn copies(chosen: Chosen, mask: usize, lane: usize, bank: &[u8]) -> bool
+    requires { ⌜ Asked chosen (now bank) × NoLane (lacksBy chosen (now bank)) × (mask < 0x10000) ⌝ }
+    requires { ⌜ (1 ≤ lane) × (lane ≤ 8) ⌝ }
+    ensures { λ r. ⌜ r ≡ copiesBy chosen mask (now (bank .entry)) lane ⌝ }
 {
-    let app = app_of(chosen.set, lane, bank);
-    if is_chosen(chosen.lanes, lane) & is_app(chosen.count, app) {
-        return apps | (1 << (app - 1));
-    }
-    apps
+    let app = app_of(chosen.set, lane, bank) & 15;
+    has_lane(chosen.lanes, lane) & (((2 * mask) >> app) & 1 == 1)
 }
 
-// The AppSels of the chosen lanes, as bits of an application mask.
-pub fn wanted(chosen: Chosen, bank: &[u8]) -> usize
-    requires { ⌜ Asked chosen (now bank) ⌝ }
-    ensures { λ r. ⌜ Wants chosen (now (bank .entry)) 9 r ⌝ }
+// All such lanes.
+fn copied(chosen: Chosen, mask: usize, bank: &[u8]) -> u8
+    requires { ⌜ Asked chosen (now bank) × NoLane (lacksBy chosen (now bank)) × (mask < 0x10000) ⌝ }
+    ensures { λ r. ⌜ Lanes 9 (copiesBy chosen mask (now (bank .entry))) r ⌝ }
 {
-    let mut apps = 0;
+    let mut lanes = 0;
     let mut lane = 1;
     while lane < 9 {
-        apps = joined(chosen, apps, lane, bank);
+        let has = copies(chosen, mask, lane, bank);
+        lanes = with_lane(lanes, lane, has);
         lane += 1;
     }
-    apps
+    lanes
 }
 
-// Whether a field of an entry accepts the number that its bits stand for.
-fn fits_entry(f: Fields, bits: u8) -> bool
-    requires { ⌜ LowCodes f ⌝ }
-    ensures { λ r. ⌜ r ≡ acceptsBits f bits ⌝ }
-{
-    accepts(f.low, f.high, f.coded, f.codes, number_of(f.signed, bits))
+// The last application mask, and the lanes that an entry with it is copied in. The next entry often has the same.
+pub struct Last {
+    pub mask: usize,
+    pub lanes: u8,
 }
 
-// 14: whether a field is to be copied and holds a value not accepted.
-fn is_bad(chosen: Chosen, f: Fields, part: usize, lane: usize, bank: &[u8]) -> bool
-    requires { ⌜ Asked chosen (now bank) × Spread f × LowCodes f ⌝ }
-    requires { ⌜ (part < f .parts) × (1 ≤ lane) × (lane ≤ 8) ⌝ }
-    ensures { λ r. ⌜ r ≡ badAt chosen f (now (bank .entry)) part lane ⌝ }
+// Those of a mask, with their bits by width.
+fn lanes_of(chosen: Chosen, last: Last, mask: usize, bank: &[u8], spreads: &mut [usize; 9]) -> Last
+    requires { ⌜ Asked chosen (now bank) × NoLane (lacksBy chosen (now bank)) × (mask < 0x10000) × Cached chosen (now bank) last (now spreads) ⌝ }
+    ensures { λ r. ⌜ (r .mask ≡ mask) × Cached chosen (now (bank .entry)) r (now (spreads .exit)) ⌝ }
 {
-    if copies(chosen, f.mask, lane, bank) {
-        let bits = read_field(bank, chosen.set, f.offset, part, f.width, lane);
-        return !fits_entry(f, bits);
+    if mask == last.mask {
+        return last;
     }
-    false
-}
-
-// The lowest lane below `top` with such a field in a part, else `top`.
-fn lowest_in_part(chosen: Chosen, f: Fields, part: usize, top: usize, bank: &[u8]) -> usize
-    requires { ⌜ Asked chosen (now bank) × Spread f × LowCodes f ⌝ }
-    requires { ⌜ (part < f .parts) × (1 ≤ top) × (top ≤ 9) ⌝ }
-    ensures { λ r. ⌜ Least top r (badAt chosen f (now (bank .entry)) part) ⌝ }
-{
-    let mut lane = 1;
-    while lane < top {
-        if is_bad(chosen, f, part, lane, bank) {
-            return lane;
-        }
-        lane += 1;
+    let lanes = copied(chosen, mask, bank);
+    if lanes != last.lanes {
+        spread_all(lanes, spreads);
     }
-    top
+    Last { mask, lanes }
 }
 
-// Every code of a width of less than 8 bits, a bit for each.
-fn every_code(width: usize) -> usize
-    requires { ⌜ width ≤ 4 ⌝ }
-    ensures { λ r. ⌜ r ≡ 2 ^ (2 ^ width) - 1 ⌝ }
+// The bits of a part in the plan, a byte at a time. It has no bits past its end, and the plan none there yet.
+fn plan_part(plan: &mut [u8; 264], at: usize, bits: usize)
+    requires { ⌜ (at ≤ 256) × (length (now plan) ≡ 264) ⌝ }
+    ensures { λ _. ⌜ Laid 8 at bits (now (plan .entry)) (now (plan .exit)) ⌝ }
 {
-    let codes: usize = 1 << width;
-    (1 << codes) - 1
-}
-
-// The highest number of a width's bits.
-fn top_of(width: usize) -> i64
-    requires { ⌜ width ≤ 8 ⌝ }
-    ensures { λ r. ⌜ r ≡ pos (2 ^ width - 1) ⌝ }
-{
-    let numbers: usize = 1 << width;
-    (numbers - 1) as i64
-}
-
-// Whether every number that the bits of an entry's fields can stand for lies from low to high.
-fn spans_all(f: Fields) -> bool
-    requires { ⌜ f .width ≤ 8 ⌝ }
-    ensures { λ r. ⌜ r ≡ spansEvery f ⌝ }
-{
-    if f.signed {
-        return (f.low <= -128) & (127 <= f.high);
+    let mut j = 0;
+    while j < 8 {
+        plan[at + j] = ((bits >> (8 * j)) % 256) as u8;
+        j += 1;
     }
-    (f.low <= 0) & (top_of(f.width) <= f.high)
 }
 
-// Whether the entry accepts every such number: where there is a code mask, all are in it too.
-fn accepts_all(f: Fields) -> bool
-    requires { ⌜ LowCodes f × (f .width ≤ 8) ⌝ }
-    ensures { λ r. ⌜ r ≡ acceptsEvery f ⌝ }
+// The same bits in every part of an entry.
+fn plan_entry(plan: &mut [u8; 264], f: Named, bits: usize)
+    requires { ⌜ Spread f × (bits < 2 ^ (8 * f .width)) × (length (now plan) ≡ 264) × Parts 0 f bits (now plan) (now plan) ⌝ }
+    ensures { λ _. ⌜ Parts (f .parts) f bits (now (plan .entry)) (now (plan .exit)) ⌝ }
 {
-    if spans_all(f) {
-        if f.coded {
-            return f.codes == every_code(f.width);
-        }
-        return true;
-    }
-    false
-}
-
-// In an entry. One that accepts every number holds no other.
-fn lowest_in_entry(chosen: Chosen, apps: usize, f: Fields, top: usize, bank: &[u8]) -> usize
-    requires { ⌜ Asked chosen (now bank) × Spread f × LowCodes f × Wants chosen (now bank) 9 apps ⌝ }
-    requires { ⌜ (1 ≤ top) × (top ≤ 9) ⌝ }
-    ensures { λ r. ⌜ Least top r (badIn chosen f (now (bank .entry))) ⌝ }
-{
-    if (f.parts == 0) | (f.mask & apps == 0) {
-        return top;
-    }
-    if accepts_all(f) {
-        return top;
-    }
-    let mut lowest = top;
     let mut part = 0;
     while part < f.parts {
-        lowest = lowest_in_part(chosen, f, part, lowest, bank);
+        plan_part(plan, f.offset + part * f.width, bits);
         part += 1;
     }
-    lowest
 }
 
-// In the entries of a list: the lowest lane of 1 to 8, else 9.
-pub fn lowest_bad(
-    chosen: Chosen,
-    apps: usize,
-    list: &[[u16; 9]; ENTRY_LIMIT],
-    entries: usize,
-    bank: &[u8],
-) -> usize
-    requires { ⌜ Listed entries (now list) ⌝ }
-    requires { ⌜ Asked chosen (now bank) × Wants chosen (now bank) 9 apps ⌝ }
-    ensures { λ r. ⌜ Least 9 r (badAmong chosen entries (now (list .entry)) (now (bank .entry))) ⌝ }
+// The RW entries, one by one: the bits to be copied, in a plan that has none, and the lanes of 14.
+pub fn plan_all(chosen: Chosen, rw: &[u8], entries: usize, bank: &[u8], plan: &mut [u8; 264]) -> u8
+    requires { ⌜ Walk (chosen .count) (now rw) entries × Asked chosen (now bank) × NoLane (lacksBy chosen (now bank)) ⌝ }
+    requires { ⌜ Planned chosen 0 (rwEntry (chosen .count) (now rw)) (now bank) (now plan) ⌝ }
+    ensures refused { λ r. ⌜ Lanes 9 (refusedAmong chosen entries (rwEntry (chosen .count) (now (rw .entry))) (now (bank .entry))) r ⌝ }
+    ensures after { λ _. ⌜ Planned chosen entries (rwEntry (chosen .count) (now (rw .entry))) (now (bank .entry)) (now (plan .exit)) ⌝ }
 {
-    let mut lowest = 9;
+    let classes = CLASSES;
+    let shapes = SHAPES;
+    let mut spreads = [0; 9];
+    let mut last = Last { mask: 0, lanes: 0 };
+    let mut refused = 0;
+    let mut start = 0;
+    let mut offset = 0;
     let mut number = 0;
     while number < entries {
-        let f = fields_at(list, number);
-        lowest = lowest_in_entry(chosen, apps, f, lowest, bank);
+        let entry = entry_read(&classes, &shapes, chosen.count, rw, start, offset);
+        let f = entry.named;
+        let width = f.width;
+        if 0 < f.parts {
+            last = lanes_of(chosen, last, entry.mask, bank, &mut spreads);
+            refused = refused | (last.lanes & refused_in(chosen.set, f, bank));
+            plan_entry(plan, f, spreads[width]);
+        }
+        start = entry.next;
+        offset = entry.end;
         number += 1;
     }
-    lowest
+    refused
 }

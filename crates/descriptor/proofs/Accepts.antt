@@ -17,7 +17,7 @@ use Rattle.rules.specs.Numbers.{bitOf, sum}
 use Rattle.rules.specs.Parameter.{Range, Values, numbers, ifInMask, minToMax, rows as tableRows, space, both, rowOf}
 use Rattle.rules.specs.Place.{partsOf}
 use Rattle.rules.specs.Accept.{within, inMask, signedByte, takes, accepts}
-use Rattle.rules.proofs.Basics.Tests.{and₂, from-true, and-no}
+use Rattle.rules.proofs.Basics.Tests.{and₂, and₃, from-true, and-no}
 use Rattle.rules.proofs.Basics.Ids.{below, below-at, every-id}
 use Rattle.descriptor.specs.Find.{lowest, highest, codeBits, lowOf, highOf, isCoded, listedIn, namedOf, acceptedIn, acceptedBy}
 use Rattle.descriptor.proofs.TableRows.{same-test, only, only-then, eqZ, eqZ→eq}
@@ -80,7 +80,7 @@ unfolding inMask
 and-codes x y (pos n) = and-bit x y n
 and-codes x y (negsuc n) = refl
 
--- the test: a signed number has 8 bits; accepted values are codes where there is a code mask, else one range or the entry's own
+-- the test: a signed number has 8 bits, a code 4; accepted values are codes where there is a code mask, else one range or the entry's own
 abbrev coded : List Range → Bool
 coded l = (eqZ (lowest l) (pos 0) && eqZ (highest l) (pos 15)) && (low l && bits l)
 
@@ -90,17 +90,31 @@ valuesTest parts (ifInMask l) = coded l
 valuesTest parts minToMax = true
 
 abbrev test : ℕ → Bool
-test id = only (rowOf id .signed) (eqb (rowOf id .width) 8) && valuesTest (rowOf id .parts) (rowOf id .values)
+test id =
+    only (rowOf id .signed) (eqb (rowOf id .width) 8)
+    && (only (isCoded (rowOf id .values)) (eqb (rowOf id .width) 4)
+    && valuesTest (rowOf id .parts) (rowOf id .values))
 
 tested : (id : ℕ) → T (test id)
 unfolding rowOf codeBits within sum
 tested = every-id test tt (λ id l. rw (List·getD-eq-default tableRows (space both) {n = id} l) tt)
 
+record Tested (id : ℕ) : Type 0 where
+  signed : T (only (rowOf id .signed) (eqb (rowOf id .width) 8))
+  codes : T (only (isCoded (rowOf id .values)) (eqb (rowOf id .width) 4))
+  values : T (valuesTest (rowOf id .parts) (rowOf id .values))
+
+tests : (id : ℕ) → Tested id
+tests id = let (a, b, c) = and₃ (only (rowOf id .signed) (eqb (rowOf id .width) 8)) (only (isCoded (rowOf id .values)) (eqb (rowOf id .width) 4)) (valuesTest (rowOf id .parts) (rowOf id .values)) (tested id) in record { signed = a; codes = b; values = c }
+
 pub signed-byte : (id : ℕ) → rowOf id .signed ≡ true → rowOf id .width ≡ 8
-signed-byte id h = eqb→eq _ _ (only-then (rowOf id .signed) _ (and₂ (only (rowOf id .signed) (eqb (rowOf id .width) 8)) _ (tested id) .0) (from-true h))
+signed-byte id h = eqb→eq _ _ (only-then (rowOf id .signed) _ (tests id .signed) (from-true h))
+
+pub coded-width : (id : ℕ) → isCoded (rowOf id .values) ≡ true → rowOf id .width ≡ 4
+coded-width id h = eqb→eq _ _ (only-then (isCoded (rowOf id .values)) _ (tests id .codes) (from-true h))
 
 values-tested : (id : ℕ) → T (valuesTest (rowOf id .parts) (rowOf id .values))
-values-tested id = and₂ (only (rowOf id .signed) (eqb (rowOf id .width) 8)) _ (tested id) .1
+values-tested id = tests id .values
 
 record Coded (l : List Range) : Type 0 where
   low-is : lowest l ≡ pos 0

@@ -1,5 +1,6 @@
 -- Laws that the functions' proofs cite.
 pub mod TableRows
+pub mod Shapes
 pub mod Bits
 pub mod Accepts
 pub mod Chain
@@ -9,7 +10,7 @@ pub mod Marks
 pub mod Locates
 pub mod Wides
 pub mod Finds
-pub mod EntryLines
+pub mod EntryReads
 pub mod Covers
 pub mod Puts
 pub mod Lines

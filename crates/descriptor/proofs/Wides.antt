@@ -8,20 +8,23 @@ use native.Mathlib.Omega.{arith}
 use borrow.Author.Tests.{lt-ltb, le-ltb}
 use lib.Bits.{bitAnd}
 use lib.IntN.{ℤ, pos, negsuc, _-ℤ_}
+use mir.Syntax.{w64}
+use mir.Val.{SFits}
 use lib.Dec.{T, ltb, ltb→lt, nltb→le, eqb, eqb→eq}
 use lib.ListN.{getD}
 use Rattle.rules.specs.declared.Entry.{Entry}
 use Rattle.rules.specs.Parameter.{rowOf, Extra, codeMask, min, max, step, Values as Column, numbers, ifInMask, minToMax}
 use Rattle.rules.specs.Descriptor.{byteAt, Position, absent, after, positionOf, codesOf, byteOf, entryAt}
 use Rattle.rules.specs.Accept.{fromBits, signedByte}
-use Rattle.rules.specs.Place.{partsOf, widthOf, signedOf}
+use Rattle.rules.specs.Place.{signedOf}
 use Rattle.rules.proofs.Basics.Tests.{or-cases, by-test, by-test₂}
 use Rattle.descriptor.specs.declared.Named.{Named}
 use Rattle.descriptor.specs.declared.table.Values.{Values}
-use Rattle.descriptor.specs.Rows.{shapeAt, placeNumber, placeIn, first, bitBy, lowIn, highIn, isLimited, moreIn, valuesOf}
+use Rattle.descriptor.specs.Rows.{placeNumber, placeIn, first, bitBy, lowIn, highIn, isLimited, moreIn, valuesOf}
 use Rattle.descriptor.specs.Wide.{Pair, PairAt, limitBy, stepBy}
 use Rattle.descriptor.specs.Find.{lowOf, highOf, listedIn, namedOf}
-use Rattle.descriptor.proofs.TableRows.{shape, small, adjacent, present, moreTest}
+use Rattle.descriptor.specs.Reading.{shaped}
+use Rattle.descriptor.proofs.TableRows.{small, adjacent, present, moreTest}
 
 -- a byte with 128 added, and taken away past the byte's end, is its signed number
 pub turned : (n : ℕ) → pos ((n + 128) % 256) -ℤ pos 128 ≡ signedByte (n % 256)
@@ -38,6 +41,11 @@ turned n =
     high h =
         let e : (n + 128) % 256 ≡ n % 256 - 128 = omega arith in
         rw (e, lt-ltb (n % 256 - 128) 128 (omega arith)) (ap negsuc (omega arith))
+
+-- it fits a word
+pub lowered : (n : ℕ) → n < 0x10000 → SFits w64 (pos n -ℤ pos 128)
+lowered n h =
+    by-test (SFits w64) (ltb n 128) (negsuc (128 - suc n)) (pos (n - 128)) (λ _. record { sfits = omega arith }) (λ _. record { sfits = omega arith })
 
 pub bit-small : (a b : ℕ) → bitBy a b < 64
 bit-small a b = by-test (λ n. n < 64) (ltb a b) 8 0 (λ _. omega arith) (λ _. omega arith)
@@ -115,11 +123,10 @@ tap-step s start a pair id g =
         let e : start + 4 + a + 1 ≡ start + a + 5 = omega arith in
         rw (q, e) ((rw q at g) .read (omega arith) .high)
 
--- what a call needs of an entry
+-- what a call needs of an entry, by the shape of its fields
 pub named-read :
     (inRO : Bool) (a : ℕ) (s : List ℕ) (start offset id : ℕ) (l : List ℕ) (v : Values) (pair : ℕ) (low high : ℤ) (more : ℕ)
     → id ≡ byteAt s start
-    → l ≡ shapeAt id
     → v ≡ valuesOf id
     → PairAt (v .place) s (start + a) pair
     → low ≡ limitBy (v .limited) (v .low) (pair / 2 ^ v .«min_bit»)
@@ -139,18 +146,16 @@ pub named-read :
       codes = bitAnd (v .listed) pair;
       step = more;
     })
-    (namedOf inRO (entryAt a s start offset))
-unfolding namedOf partsOf widthOf signedOf valuesOf
-named-read inRO a s start offset id l v pair low high more e₁ e₂ e₃ g e₄ e₅ e₆ =
+    (shaped l (namedOf inRO (entryAt a s start offset)))
+unfolding namedOf signedOf valuesOf
+named-read inRO a s start offset id l v pair low high more e₁ e₂ g e₃ e₄ e₅ =
     let x : ℕ = byteAt s start in
-    let at : PairAt (moreIn (rowOf x .values) (rowOf x .extras)) s (start + a) pair = rw (e₃, e₁) at g in
+    let at : PairAt (moreIn (rowOf x .values) (rowOf x .extras)) s (start + a) pair = rw (e₂, e₁) at g in
     let m = small x in
     let e : Entry = entryAt a s start offset in
     let (p, q) = limits-are s start a pair (rowOf x .extras) e refl refl refl (rowOf x .values) (m .more) at in
-    rw (e₄, e₅, e₆, e₂, e₃, e₁)
+    rw (e₃, e₄, e₅, e₂, e₁)
     (rw (
-      shape x .0,
-      shape x .1,
       p,
       q,
       m .coded,

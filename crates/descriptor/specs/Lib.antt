@@ -7,6 +7,6 @@ pub mod Locate
 pub mod Marks
 pub mod Wide
 pub mod Find
-pub mod EntryLines
+pub mod Reading
 pub mod Cover
 pub mod Text

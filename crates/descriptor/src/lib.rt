@@ -5,15 +5,14 @@ ghost use Prim.Native.Nat.{_+_, _≤_};
 ghost use lib.ListN.{length, drop};
 ghost use Rattle.rules.specs.Parameter.{rowOf};
 ghost use Rattle.rules.specs.Descriptor.{maskBytes};
-ghost use Rattle.rules.specs.Load.{sized, loadOf, resumeOf, passOf, rwEntries};
+ghost use Rattle.rules.specs.Load.{sized, loadOf, resumeOf, passOf};
 ghost use Rattle.rules.specs.MapProgram.{mapOutput};
 ghost use Rattle.rules.specs.Beside.{entryAnswer, entryBytes};
 ghost use Rattle.descriptor.specs.Locate.{locatedOf};
 ghost use Rattle.descriptor.specs.Find.{heldIn, foundOf};
-ghost use Rattle.descriptor.specs.EntryLines.{listOf};
+ghost use Rattle.descriptor.specs.Reading.{readBy};
 ghost use Rattle.descriptor.specs.Cover.{coverOf};
 
-pub mod columns; // the columns of an entry's line
 mod table; // the table of IDs
 mod rows; // the class of an ID
 mod state; // what a walk keeps
@@ -24,17 +23,16 @@ mod search; // an entry by its number, and by a byte of its space
 mod text; // the map program's text
 
 use crate::decode::byte_at;
-use crate::reading::lines_at;
 use crate::reading::named_at;
+use crate::reading::read_at;
 use crate::rows::class_of;
+use crate::search::Mark;
 use crate::search::look;
 use crate::search::seek;
 use crate::state::into_ro;
 use crate::state::start;
-use crate::table::CLASSES;
 use crate::table::LEAST;
 use crate::table::ROWS;
-use crate::table::SHAPES;
 use crate::text::put_refused;
 use crate::text::put_strings;
 use crate::walk::Counted;
@@ -44,11 +42,14 @@ use crate::walk::pass_in;
 use crate::walk::scan;
 use crate::walk::to_ro;
 use rules::Answer;
-use rules::ENTRY_LIMIT;
 use rules::Loaded;
 use rules::Passed;
 use rules::Refusal;
 use rules::State;
+
+// The rows of the table that `entry_read` is lent: a call names them once.
+pub use crate::table::CLASSES;
+pub use crate::table::SHAPES;
 
 // Where an entry stands: in which string, its start and length there, and its offset in a set.
 pub enum Located {
@@ -285,23 +286,59 @@ pub fn find(
     }
 }
 
-// The load, and the line of each RW entry in a lent list, entry n at index n; refused, the list stays.
-pub fn entries(count: usize, rw: &[u8], ro: &[u8], list: &mut [[u16; 9]; ENTRY_LIMIT]) -> Loaded
-    ensures answer { λ r. ⌜ r ≡ loadOf count (now (rw .entry)) (now (ro .entry)) ⌝ }
-    ensures lines { λ _. ⌜ now (list .exit) ≡ listOf (loadOf count (now (rw .entry)) (now (ro .entry))) (rwEntries count (now (rw .entry))) (now (list .entry)) ⌝ }
+// What apply needs of an RW entry: its application mask, and what a call needs of it; and where it ends, which is where the next one
+// begins, in the string and in a set.
+pub struct Read {
+    pub mask: usize,
+    pub named: Named,
+    pub next: usize,
+    pub end: usize,
+}
+
+// The RW entry at a place, with an offset, by any rows lent, whether or not the strings load; nothing where no entry can stand.
+pub fn entry_read(
+    classes: &[u8; 19],
+    shapes: &[[u8; 2]; 11],
+    count: usize,
+    s: &[u8],
+    start: usize,
+    offset: usize,
+) -> Read
+    ensures { λ r. ⌜ r ≡ readBy (now (classes .entry)) (now (shapes .entry)) count (now (s .entry)) start offset ⌝ }
 {
-    let loaded = load(count, rw, ro);
-    let Loaded::Accepted {
-        rw_count,
-        ro_count: _,
-        staged_length: _,
-        active_length: _,
-    } = loaded
-    else {
-        return loaded;
-    };
-    lines_at(mask_bytes(count), rw, rw_count, list);
-    loaded
+    let a = mask_bytes(count);
+    if (start <= 120) & (offset <= 256) {
+        if start + 2 + a < s.len() {
+            return read_at(
+                classes,
+                shapes,
+                a,
+                s,
+                Mark {
+                    at: start,
+                    sum: offset,
+                },
+            );
+        }
+    }
+    Read {
+        mask: 0,
+        named: Named {
+            ro: false,
+            id: 0,
+            offset: 0,
+            parts: 0,
+            width: 0,
+            signed: false,
+            low: 0,
+            high: 0,
+            coded: false,
+            codes: 0,
+            step: 0,
+        },
+        next: start,
+        end: offset,
+    }
 }
 
 // The entry whose space covers a byte of a set: its number, where its fields lie, the number of entries looked at, and the string that

@@ -1,23 +1,22 @@
-// The reading of an entry: what a call needs of the one that it names, and a line for each RW entry. The walks read less.
+// The reading of an entry: what a call needs of the one that it names, and what apply needs of an RW entry. The walks read less.
 ghost use mathlib.Core.Path.{_≡_};
 ghost use Prim.Native.Nat.{_≤_, _<_};
-ghost use Rattle.rules.specs.Descriptor.{byteAt, highFirst, entryAt, entryLimit};
+ghost use Rattle.rules.specs.Descriptor.{byteAt, highFirst, entryAt};
 ghost use Rattle.descriptor.specs.Rows.{Shapes};
 ghost use Rattle.descriptor.specs.Wide.{Pair, PairAt, limitBy, stepBy};
 ghost use Rattle.descriptor.specs.Find.{namedOf};
-ghost use Rattle.descriptor.specs.Marks.{OnEntry, markAfter, Passable};
-ghost use Rattle.descriptor.specs.EntryLines.{Short, lineBy, lineAt, lines};
+ghost use Rattle.descriptor.specs.Marks.{OnEntry};
+ghost use Rattle.descriptor.specs.Reading.{shapeBy, shaped, readOf};
 use crate::Named;
+use crate::Read;
 use crate::decode::byte_at;
+use crate::rows::class_in;
 use crate::rows::class_of;
 use crate::search::Mark;
 use crate::search::past;
-use crate::table::CLASSES;
 use crate::table::PARTS;
-use crate::table::SHAPES;
 use crate::table::WIDTH;
 use crate::table::values_of;
-use rules::ENTRY_LIMIT;
 
 // A byte of a string as a number, 0 past its end.
 fn byte_from(s: &[u8], at: usize) -> usize
@@ -69,22 +68,19 @@ fn step_of(id: u8, pair: usize) -> usize
     0
 }
 
-// What a call needs of the entry at a place of a string. With the rows lent it is small enough to be inlined for both strings.
-pub fn named_at(
-    classes: &[u8; 19],
-    shapes: &[[u8; 2]; 11],
+// What a call needs of the entry at a place of a string, by its ID and the shape of its fields.
+fn named_by(
+    shape: [u8; 2],
+    id: u8,
     in_ro: bool,
     a: usize,
     s: &[u8],
     start: usize,
     offset: usize,
 ) -> Named
-    requires { ⌜ Shapes (now classes) (now shapes) ⌝ }
-    requires { ⌜ (a ≤ 2) × (start ≤ 120) ⌝ }
-    ensures { λ r. ⌜ r ≡ namedOf in_ro (entryAt a (now (s .entry)) start offset) ⌝ }
+    requires { ⌜ (id ≡ byteAt (now s) start) × (a ≤ 2) × (start ≤ 120) ⌝ }
+    ensures { λ r. ⌜ r ≡ shaped shape (namedOf in_ro (entryAt a (now (s .entry)) start offset)) ⌝ }
 {
-    let id = byte_at(s, start);
-    let shape = shapes[class_of(classes, id)];
     let values = values_of(id);
     let pair = pair_at(values.place, s, start + a);
     Named {
@@ -102,6 +98,36 @@ pub fn named_at(
     }
 }
 
+// The same by the rows, which are lent. It is small enough to be inlined for both strings.
+pub fn named_at(
+    classes: &[u8; 19],
+    shapes: &[[u8; 2]; 11],
+    in_ro: bool,
+    a: usize,
+    s: &[u8],
+    start: usize,
+    offset: usize,
+) -> Named
+    requires { ⌜ Shapes (now classes) (now shapes) ⌝ }
+    requires { ⌜ (a ≤ 2) × (start ≤ 120) ⌝ }
+    ensures { λ r. ⌜ r ≡ namedOf in_ro (entryAt a (now (s .entry)) start offset) ⌝ }
+{
+    let id = byte_at(s, start);
+    let shape = shapes[class_of(classes, id)];
+    named_by(shape, id, in_ro, a, s, start, offset)
+}
+
+// The shape of an ID's fields by any rows lent; a class that has no row has no fields.
+fn shape_in(classes: &[u8; 19], shapes: &[[u8; 2]; 11], id: u8) -> [u8; 2]
+    ensures { λ r. ⌜ r ≡ shapeBy (now (classes .entry)) (now (shapes .entry)) id ⌝ }
+{
+    let class = class_in(classes, id) as usize;
+    if class < 11 {
+        return shapes[class];
+    }
+    [0, 0]
+}
+
 // An application mask of a bytes.
 fn mask_at(a: usize, s: &[u8], at: usize) -> usize
     requires { ⌜ (1 ≤ a) × (a ≤ 2) ⌝ }
@@ -113,46 +139,19 @@ fn mask_at(a: usize, s: &[u8], at: usize) -> usize
     pair_from(s, at)
 }
 
-// An entry's line, in the order of its columns.
-fn line_of(mask: usize, f: Named) -> [u16; 9]
-    requires { ⌜ (mask < 0x10000) × Short f ⌝ }
-    ensures { λ r. ⌜ r ≡ lineBy mask f ⌝ }
-{
-    [
-        mask as u16,
-        f.offset as u16,
-        f.parts as u16,
-        f.width as u16,
-        f.signed as u16,
-        (f.low + 128) as u16,
-        (f.high + 128) as u16,
-        f.coded as u16,
-        f.codes as u16,
-    ]
-}
-
-// The line of the entry at a mark of the RW string.
-fn line_at(classes: &[u8; 19], shapes: &[[u8; 2]; 11], a: usize, s: &[u8], mark: Mark) -> [u16; 9]
-    requires { ⌜ Shapes (now classes) (now shapes) ⌝ }
+// The entry at a mark of the RW string, by any rows lent.
+pub fn read_at(classes: &[u8; 19], shapes: &[[u8; 2]; 11], a: usize, s: &[u8], mark: Mark) -> Read
     requires { ⌜ (1 ≤ a) × (a ≤ 2) × OnEntry a (now s) mark ⌝ }
-    ensures { λ r. ⌜ r ≡ lineAt a (now (s .entry)) mark ⌝ }
+    ensures { λ r. ⌜ r ≡ readOf (now (classes .entry)) (now (shapes .entry)) (entryAt a (now (s .entry)) (mark .at) (mark .sum)) ⌝ }
 {
-    let f = named_at(classes, shapes, false, a, s, mark.at, mark.sum);
-    line_of(mask_at(a, s, mark.at + 2), f)
-}
-
-// The lines of the first n entries of the RW string.
-pub fn lines_at(a: usize, s: &[u8], n: usize, list: &mut [[u16; 9]; ENTRY_LIMIT])
-    requires { ⌜ (1 ≤ a) × (a ≤ 2) × (n ≤ entryLimit) × Passable a (now s) 0 n ⌝ }
-    ensures { λ _. ⌜ now (list .exit) ≡ lines (λ i. lineAt a (now (s .entry)) (markAfter a (now (s .entry)) 0 i)) n (now (list .entry)) ⌝ }
-{
-    let classes = CLASSES;
-    let shapes = SHAPES;
-    let mut mark = Mark { at: 0, sum: 0 };
-    let mut i = 0;
-    while i < n {
-        list[i] = line_at(&classes, &shapes, a, s, mark);
-        mark = past(a, s, mark);
-        i += 1;
+    let at = mark.at;
+    let id = s[at];
+    let named = named_by(shape_in(classes, shapes, id), id, false, a, s, at, mark.sum);
+    let after = past(a, s, mark);
+    Read {
+        mask: mask_at(a, s, at + 2),
+        named,
+        next: after.at,
+        end: after.sum,
     }
 }

@@ -14,6 +14,7 @@ use Rattle.rules.specs.Accept.{accepts, toBits, fromBits}
 use Rattle.rules.specs.Layout.{bankSize, setStart, appSelAt}
 use Rattle.rules.specs.Refuse.{Verdict, passes, refuses, decide, bankOrder, judge, chooses, atLowest}
 use Rattle.rules.specs.Machine.{Command, call}
+use Rattle.rules.specs.Source.{Source, kept, copied, isCopied}
 
 abbrev pub Bank : Type 0
 Bank = List ℕ
@@ -57,16 +58,22 @@ fieldBits m s k x = sum 8 λ q. cond (isGap (ownerOf m s k q)) 0 (cut x q 1 * 2 
 unfoldable pub bankLacksApp : Map → Bank → ℕ → ℕ → ℕ → Bool
 bankLacksApp m b s lanes i = chooses lanes i && not (isApp (m .count) (appSelIn b s i))
 
--- apply copies, "for each chosen lane, each RW field whose entry's mask has the lane's AppSel"
-unfoldable pub bankCopies : Map → Bank → ℕ → ℕ → ℕ → ℕ → Bool
-bankCopies m b s lanes e i = chooses lanes i && hasApp (m .count) (entry m e .mask) (appSelIn b s i)
+-- the source of a field: "for each chosen lane, each RW field whose entry's mask has the lane's AppSel is copied .. the others keep their
+-- active number"
+unfoldable pub bankSource : Map → Bank → ℕ → ℕ → ℕ → ℕ → Source
+bankSource m b s lanes e i = cond (chooses lanes i && hasApp (m .count) (entry m e .mask) (appSelIn b s i)) copied kept
+
+-- the bits that apply gives a field of the active set, by its source
+abbrev pub bitsFrom : Source → Map → Bank → ℕ → ℕ → ℕ → ℕ → ℕ
+bitsFrom kept m b s e p i = getField m b 2 e p i
+bitsFrom copied m b s e p i = getField m b s e p i
 
 -- 14: "a field to be copied holds a value not accepted"
 unfoldable pub bankHoldsBad : Map → Bank → ℕ → ℕ → ℕ → Bool
 bankHoldsBad m b s lanes i =
     any (m .rwCount) λ e.
     any (partsOf (entry m e)) λ p.
-    bankCopies m b s lanes e i && not (accepts (entry m e) (numberIn m b s e p i))
+    isCopied (bankSource m b s lanes e i) && not (accepts (entry m e) (numberIn m b s e p i))
 
 -- "The host's plan, at apply": 13 before 14
 unfoldable pub bankPlan : Map → Call → Bank → List Verdict
@@ -83,15 +90,14 @@ unfoldable pub loop : ℕ → (ℕ → Bank → Bank) → Bank → Bank
 loop zero f b = b
 loop (suc n) f b = f n (loop n f b)
 
--- what apply writes to a field of the active set: the staged bits if it is copied; "the others keep their active number"
-unfoldable pub copyField : Map → ℕ → ℕ → Bank → ℕ → ℕ → ℕ → Bank → Bank
-copyField m s lanes staged e p i b =
-    cond (bankCopies m staged s lanes e i) (putField m b 2 e p i (getField m staged s e p i)) b
+-- what apply gives a field of the active set, from the bank b₀ before it: a field that is kept, its own bits
+unfoldable pub giveField : Map → ℕ → ℕ → Bank → ℕ → ℕ → ℕ → Bank → Bank
+giveField m s lanes b₀ e p i b = putField m b 2 e p i (bitsFrom (bankSource m b₀ s lanes e i) m b₀ s e p i)
 
 -- to every RW field, in every lane
 unfoldable pub applyBank : Map → ℕ → ℕ → Bank → Bank
 applyBank m s lanes b =
-    loop (m .rwCount) (λ e. loop (partsOf (entry m e)) (λ p. loop 8 (λ j. copyField m s lanes b e p (suc j)))) b
+    loop (m .rwCount) (λ e. loop (partsOf (entry m e)) (λ p. loop 8 (λ j. giveField m s lanes b e p (suc j)))) b
 
 -- what an accepted call answers, and the bank after it
 unfoldable pub bankDoes : Map → Call → Bank → Answer × Bank

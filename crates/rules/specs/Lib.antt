@@ -9,6 +9,7 @@ pub mod Place
 pub mod Accept
 pub mod Refuse
 pub mod Machine
+pub mod Source
 pub mod Bank
 pub mod Table
 pub mod Address

@@ -13,6 +13,7 @@ use Rattle.rules.specs.Place.{entry, partsOf, widthOf, signedOf, isRW, h
 use Rattle.rules.specs.Accept.{accepts, toBits, fromBits}
 use Rattle.rules.specs.Refuse.{Verdict, decide, orderOf, judge, chooses, atLowest}
 use Rattle.rules.specs.Machine.{Command, call}
+use Rattle.rules.specs.Source.{Source, kept, copied, isCopied}
 
 pub record Table : Type 0 where
   pub numbers : ℕ → ℕ → ℕ → ℕ → ℤ
@@ -49,16 +50,22 @@ byteFrom m s k bits =
 unfoldable pub tableLacksApp : Map → Table → ℕ → ℕ → ℕ → Bool
 tableLacksApp m t s lanes i = chooses lanes i && not (isApp (m .count) (t .apps s i))
 
--- apply copies, "for each chosen lane, each RW field whose entry's mask has the lane's AppSel"
-unfoldable pub tableCopies : Map → Table → ℕ → ℕ → ℕ → ℕ → Bool
-tableCopies m t s lanes e i = chooses lanes i && hasApp (m .count) (entry m e .mask) (t .apps s i)
+-- the source of a field: "for each chosen lane, each RW field whose entry's mask has the lane's AppSel is copied .. the others keep their
+-- active number"
+unfoldable pub tableSource : Map → Table → ℕ → ℕ → ℕ → ℕ → Source
+tableSource m t s lanes e i = cond (chooses lanes i && hasApp (m .count) (entry m e .mask) (t .apps s i)) copied kept
+
+-- the number that apply gives a field of the active set, by its source
+abbrev pub numberFrom : Source → Table → ℕ → ℕ → ℕ → ℕ → ℤ
+numberFrom kept t s e p i = t .numbers 2 e p i
+numberFrom copied t s e p i = t .numbers s e p i
 
 -- 14: "a field to be copied holds a value not accepted"
 unfoldable pub tableHoldsBad : Map → Table → ℕ → ℕ → ℕ → Bool
 tableHoldsBad m t s lanes i =
     any (m .rwCount) λ e.
     any (partsOf (entry m e)) λ p.
-    tableCopies m t s lanes e i && not (accepts (entry m e) (t .numbers s e p i))
+    isCopied (tableSource m t s lanes e i) && not (accepts (entry m e) (t .numbers s e p i))
 
 -- "The host's plan, at apply": 13 before 14
 unfoldable pub tablePlan : Map → Call → Table → List Verdict
@@ -70,9 +77,9 @@ tablePlan m (byteRead s k) t = []
 tablePlan m (publish e p i v) t = []
 tablePlan m (apply s lanes) t = atLowest 13 (tableLacksApp m t s lanes) ∷ atLowest 14 (tableHoldsBad m t s lanes) ∷ []
 
--- the active set's fields that apply changes
-abbrev pub changes : Map → Table → ℕ → ℕ → ℕ → ℕ → ℕ → ℕ → Bool
-changes m t s lanes s′ e p i = eqb s′ 2 && (isRW m e && (holds m 2 e p i && tableCopies m t s lanes e i))
+-- apply gives a number to the active set's RW fields
+abbrev pub gives : Map → ℕ → ℕ → ℕ → ℕ → Bool
+gives m s′ e p i = eqb s′ 2 && (isRW m e && holds m 2 e p i)
 
 -- what an accepted call answers, and the table after it
 unfoldable pub tableDoes : Map → Call → Table → Answer × Table
@@ -91,7 +98,7 @@ tableDoes m (byteRead s k) t =
 tableDoes m (publish e p i v) t = (saysYes, stored t 2 e p i v)
 -- "copied to the active set; the others keep their active number"
 tableDoes m (apply s lanes) t =
-    (saysYes, renumbered t λ s′ e p i. cond (changes m t s lanes s′ e p i) (t .numbers s e p i) (t .numbers s′ e p i))
+    (saysYes, renumbered t λ s′ e p i. cond (gives m s′ e p i) (numberFrom (tableSource m t s lanes e i) t s e p i) (t .numbers s′ e p i))
 
 -- "A refused call changes none of its numbers; the refusal and its extras follow from the call's arguments and those three."
 abbrev pub tableCallOn : Reading → Call → Table → Answer × Table

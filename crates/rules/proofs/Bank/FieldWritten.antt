@@ -6,7 +6,7 @@ use Prim.Native.Nat.{ℕ, _+_, _-_, _^_, _≤_, _<_}
 use native.Mathlib.Omega.{arith}
 use native.Mathlib.Decide.{ℕ-discrete, decLt}
 use lib.ListN.{length, getD, set, length-set, drop}
-use lib.Seq.{getD-set-same, getD-set-other, drop-set-lt}
+use lib.Seq.{getD-set-same, getD-set-other, set-getD, drop-set-lt}
 use lib.Dec.{T, eqb, eqb→eq}
 use borrow.Author.Tests.{eq-eqb}
 use Rattle.rules.specs.Words.{Entry}
@@ -17,7 +17,7 @@ use Rattle.rules.specs.Bank.{Bank, fieldAt, merge, getField, putField}
 use Rattle.rules.specs.Demands.{bitIn}
 use Rattle.rules.proofs.Basics.Tests.{and₄, by-test, either}
 use Rattle.rules.proofs.Place.Lanes.{lanes-apart}
-use Rattle.rules.proofs.Basics.Digits.{cut-merge, cut-merge-other, merge-lt}
+use Rattle.rules.proofs.Basics.Digits.{merge-own, cut-merge, cut-merge-other, merge-lt}
 use Rattle.rules.proofs.Place.AcceptedMap.{GoodMap}
 use Rattle.rules.proofs.Place.Fields.{covers-bit, field-width, in-bank, own-place, in-byte, same-entry, same-part, same-set, same-byte}
 
@@ -57,6 +57,11 @@ beside e p i k q here out = go (decLt q (fieldBit e i)) (decLt q (fieldBit e i +
     go (yes l) d = inr (omega arith)
     go (no l) (no u) = inl (omega arith)
     go (no l) (yes u) = absurd (out (covers-bit e p i k q here (omega arith) u))
+
+-- a field that is put its own bits
+pub put-own : (m : Map) (b : Bank) (s e p i : ℕ) → putField m b s e p i (getField m b s e p i) ≡ b
+unfolding getField putField
+put-own m b s e p i = rw (merge-own (getD b (fieldAt m s e p i) 0) (fieldBit (entry m e) i) (widthOf (entry m e))) (set-getD b (fieldAt m s e p i) 0)
 
 module _ (m : Map) (g : GoodMap m) (b : Bank) (size : bankSize ≤ length b) (s e p i v : ℕ) (f : Field m s e p i) (hv : v < 2 ^ widthOf (entry m e)) where
   at-in : fieldAt m s e p i < length b

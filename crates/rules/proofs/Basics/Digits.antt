@@ -5,12 +5,18 @@ use Prim.Native.Nat.{ℕ, _+_, _-_, _*_, _/_, _%_, _^_, _≤_, _<_}
 use native.Mathlib.Nat.{mod-lt, add-comm, mul-assoc}
 use native.Mathlib.Omega.{arith}
 use lib.Arith.{digits-lt}
-use lib.Pow.{pow-pos, pow-add, high, low, shr-lt, shr-shr, field, mod-mod-pow}
+use lib.Pow.{pow-pos, pow-add, high, low, shr-lt, shr-shr, split, field, mod-mod-pow}
 use Rattle.rules.specs.Numbers.{cut}
 use Rattle.rules.specs.Bank.{merge}
 
 pub cut-lt : (x t w : ℕ) → cut x t w < 2 ^ w
 cut-lt x t w = mod-lt (x / 2 ^ t) (pow-pos w)
+
+-- a number's own bits
+pub merge-own : (x t w : ℕ) → merge x t w (cut x t w) ≡ x
+merge-own x t w =
+    let e : x / 2 ^ (w + t) ≡ x / 2 ^ t / 2 ^ w = rw (add-comm w t) (sym (shr-shr x t w)) in
+    rw (e, split (x / 2 ^ t) w) (split x t)
 
 module _ (x t w v : ℕ) (h : v < 2 ^ w) where
   merge-high : merge x t w v / 2 ^ t ≡ x / 2 ^ (w + t) * 2 ^ w + v

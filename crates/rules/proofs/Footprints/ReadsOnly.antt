@@ -8,15 +8,16 @@ use native.Mathlib.Omega.{arith}
 use native.Mathlib.Decide.{ℕ-discrete}
 use lib.ListN.{length, getD, set}
 use lib.Seq.{getD-set-same, getD-set-other}
-use lib.Dec.{T, eqb, eqb-refl, ltb→lt}
+use lib.Dec.{T, eqb, eqb-refl, eqb→eq, ltb→lt}
 use Rattle.rules.specs.Words.{Call, select, write, read, byteWrite, byteRead, publish, apply, number}
 use Rattle.rules.specs.Load.{Map, mapOf, readOf}
 use Rattle.rules.specs.Place.{entry, partsOf, widthOf, signedOf, isRW, Field}
 use Rattle.rules.specs.Accept.{accepts, fromBits}
 use Rattle.rules.specs.Layout.{bankSize, appSelAt}
 use Rattle.rules.specs.Refuse.{Verdict, firstOf, judge, bankOrder, chooses}
-use Rattle.rules.specs.Bank.{Bank, fieldAt, getField, putField, numberIn, withNumber, bankLacksApp, bankCopies, bankHoldsBad, bankPlan, applyBank, bankDoes, bankCall}
-use Rattle.rules.proofs.Basics.Tests.{and₃, by-test₂, either, is-false}
+use Rattle.rules.specs.Source.{Source, kept, copied, isCopied}
+use Rattle.rules.specs.Bank.{Bank, fieldAt, getField, putField, numberIn, withNumber, bankLacksApp, bankSource, bitsFrom, bankHoldsBad, bankPlan, applyBank, bankDoes, bankCall}
+use Rattle.rules.proofs.Basics.Tests.{and₂, by-test₂, either, is-false}
 use Rattle.rules.proofs.Basics.Any.{any-ext}
 use Rattle.rules.proofs.Place.AcceptedMap.{GoodMap, rw-held}
 use Rattle.rules.proofs.Load.Walks.{map-good}
@@ -25,7 +26,7 @@ use Rattle.rules.proofs.Place.Fields.{field-in-set, no-app}
 use Rattle.rules.proofs.Bank.FieldWritten.{eqb₄, get-put-any, put-elsewhere}
 use Rattle.rules.proofs.Lists.Allowed.{select-allowed, write-field, write-fits, read-field, publish-field, publish-fits, apply-staged, bits-lt}
 use Rattle.rules.proofs.Apply.Plans.{lowest-same}
-use Rattle.rules.proofs.Apply.Applied.{apply-field, apply-apps}
+use Rattle.rules.proofs.Apply.Applied.{apply-is, apply-field, apply-apps}
 use Rattle.rules.proofs.Refusals.Verdicts.{Judged, first-append, first-same, judge-passes, decide-both}
 use Rattle.rules.proofs.Refusals.Orders.{bank-order-passes, bank-order-same}
 use Rattle.rules.specs.Footprint.{onLane, laned, SameLane, SameOn, Alike, ReadsOnly}
@@ -65,25 +66,31 @@ module _ (m : Map) (g : GoodMap m) (b b′ : Bank) (size : bankSize ≤ length b
         go s′ hs′ (no ne) =
             getD-set-other b (appSelAt s i) (appSelAt s′ j) a 0 ne ∙ r .apps s′ hs′ ∙ sym (getD-set-other b′ (appSelAt s i) (appSelAt s′ j) a 0 ne)
 
-    same-copies : (s lanes e : ℕ) → s < 2 → bankCopies m b s lanes e j ≡ bankCopies m b′ s lanes e j
-    unfolding bankCopies
-    same-copies s lanes e hs = rw (r .apps s hs)
+    same-source : (s lanes e : ℕ) → s < 2 → bankSource m b s lanes e j ≡ bankSource m b′ s lanes e j
+    unfolding bankSource
+    same-source s lanes e hs = rw (r .apps s hs)
+
+    same-from : (c : Source) (s e p : ℕ) → s < 2 → e < m .rwCount → Field m 2 e p j → bitsFrom c m b s e p j ≡ bitsFrom c m b′ s e p j
+    same-from kept s e p hs he f = r .fields 2 e p f
+    same-from copied s e p hs he f = r .fields s e p (field-in-set s (named-has-bytes s (omega arith)) (rw-held m g s e he) f)
 
     same-apply : (s lanes : ℕ) → s < 2 → SameLane m j (applyBank m s lanes b) (applyBank m s lanes b′)
     same-apply s lanes hs =
+        let x = apply-is m g s lanes b size in
+        let x′ = apply-is m g s lanes b′ size′ in
         record {
           fields = λ s′ e p f.
-              apply-field m g s lanes b size s′ e p j f
-              ∙ rw (same-copies s lanes e hs)
-              (by-test₂ _≡_ (eqb s′ 2 && (isRW m e && bankCopies m b′ s lanes e j))
-              (getField m b s e p j) (getField m b s′ e p j) (getField m b′ s e p j) (getField m b′ s′ e p j)
-              (λ y. r .fields s e p (field-in-set s (named-has-bytes s (omega arith)) (rw-held m g s e (ltb→lt _ _ (and₃ (eqb s′ 2) (isRW m e) _ y .1))) f))
+              apply-field m g s lanes b _ x s′ e p j f
+              ∙ rw (same-source s lanes e hs)
+              (by-test₂ _≡_ (eqb s′ 2 && isRW m e)
+              (bitsFrom (bankSource m b′ s lanes e j) m b s e p j) (getField m b s′ e p j) (bitsFrom (bankSource m b′ s lanes e j) m b′ s e p j) (getField m b′ s′ e p j)
+              (λ y. let (a₁, a₂) = and₂ (eqb s′ 2) (isRW m e) y in same-from (bankSource m b′ s lanes e j) s e p hs (ltb→lt _ _ a₂) (rw (eqb→eq s′ 2 a₁) at f))
               (λ _. r .fields s′ e p f))
-              ∙ sym (apply-field m g s lanes b′ size′ s′ e p j f);
+              ∙ sym (apply-field m g s lanes b′ _ x′ s′ e p j f);
           apps = λ s′ hs′.
-              apply-apps m g s lanes b size s′ j hs′ u
+              apply-apps m g s lanes b _ x s′ j hs′ u
               ∙ r .apps s′ hs′
-              ∙ sym (apply-apps m g s lanes b′ size′ s′ j hs′ u);
+              ∙ sym (apply-apps m g s lanes b′ _ x′ s′ j hs′ u);
         }
 
     same-number : (s e p : ℕ) → Field m s e p j → numberIn m b s e p j ≡ numberIn m b′ s e p j
@@ -101,14 +108,14 @@ module _ (m : Map) (g : GoodMap m) (b b′ : Bank) (size : bankSize ≤ length b
         go (inr n) = rw (is-false (chooses lanes i) n)
 
     bad-same : (i : ℕ) → 1 ≤ i → i ≤ 8 → bankHoldsBad m b s lanes i ≡ bankHoldsBad m b′ s lanes i
-    unfolding bankHoldsBad bankCopies
+    unfolding bankHoldsBad bankSource
     bad-same i l u = any-ext (m .rwCount) _ _ λ e he. any-ext (partsOf (entry m e)) _ _ λ p hp. go e p he hp (either (chooses lanes i))
       where
         go : (e p : ℕ) → e < m .rwCount → p < partsOf (entry m e) → T (chooses lanes i) ⊎ T (not (chooses lanes i))
-            → (bankCopies m b s lanes e i && not (accepts (entry m e) (numberIn m b s e p i)))
-            ≡ (bankCopies m b′ s lanes e i && not (accepts (entry m e) (numberIn m b′ s e p i)))
+            → (isCopied (bankSource m b s lanes e i) && not (accepts (entry m e) (numberIn m b s e p i)))
+            ≡ (isCopied (bankSource m b′ s lanes e i) && not (accepts (entry m e) (numberIn m b′ s e p i)))
         go e p he hp (inl y) =
-            ap₂ (λ c v. c && not (accepts (entry m e) v)) (same-copies i l u (same i l u y) s lanes e hs)
+            ap₂ (λ c v. isCopied c && not (accepts (entry m e) v)) (same-source i l u (same i l u y) s lanes e hs)
             (same-number i l u (same i l u y) s e p (record { set = named-has-bytes s (omega arith); ent = rw-held m g s e he; part = hp; low = l; top = u }))
         go e p he hp (inr n) = rw (is-false (chooses lanes i) n)
 

@@ -1,6 +1,6 @@
 -- A call on lanes writes only bits of their fields and their AppSels.
 use mathlib.Core.Path.{_≡_, refl, sym, _∙_}
-use mathlib.Core.Logic.{_≢_}
+use mathlib.Core.Logic.{_⊎_, inl, inr, _≢_}
 use mathlib.Core.Bool.{Bool, not}
 use mathlib.Core.List.{_++_}
 use Prim.Native.Nat.{ℕ, _+_, _^_, _≤_, _<_}
@@ -12,16 +12,16 @@ use Rattle.rules.specs.Load.{Map, mapOf, readOf}
 use Rattle.rules.specs.Place.{entry, widthOf, Field}
 use Rattle.rules.specs.Layout.{bankSize, setStart, appSelAt}
 use Rattle.rules.specs.Refuse.{Verdict, passes, refuses, decide, judge, bankOrder, chooses}
-use Rattle.rules.specs.Bank.{Bank, fieldAt, getField, putField, withNumber, bankCopies, bankPlan, applyBank, bankDoes, bankCall}
-use Rattle.rules.proofs.Basics.Tests.{and₂}
+use Rattle.rules.specs.Source.{kept}
+use Rattle.rules.specs.Bank.{Bank, fieldAt, getField, putField, withNumber, bankSource, bitsFrom, bankPlan, applyBank, bankDoes, bankCall}
+use Rattle.rules.proofs.Basics.Tests.{either, is-false}
 use Rattle.rules.proofs.Bank.Places.{app-apart, app-no-set}
 use Rattle.rules.proofs.Place.AcceptedMap.{GoodMap}
 use Rattle.rules.proofs.Load.Walks.{map-good}
 use Rattle.rules.proofs.Place.Fields.{no-app}
-use Rattle.rules.proofs.Bank.FieldWritten.{other₄, get-put-other, put-bit, put-elsewhere, put-size}
-use Rattle.rules.proofs.Lists.Relation.{field-lt}
+use Rattle.rules.proofs.Bank.FieldWritten.{other₄, get-put-other, put-bit, put-own, put-elsewhere, put-size}
 use Rattle.rules.proofs.Lists.Allowed.{select-allowed, write-field, write-fits, publish-field, publish-fits, bits-lt}
-use Rattle.rules.proofs.Apply.Applied.{apply-keeps}
+use Rattle.rules.proofs.Apply.Applied.{apply-keeps, given-lt}
 use Rattle.rules.proofs.Refusals.Verdicts.{Judged, first-append, judge-passes}
 use Rattle.rules.proofs.Refusals.Orders.{bank-order-passes}
 use Rattle.rules.specs.Footprint.{onLane, laned, OnlyOn, WritesOnly}
@@ -76,14 +76,21 @@ module _ (m : Map) (g : GoodMap m) (on : ℕ → Bool) (b : Bank) (size : bankSi
 
 -- an accepted call
 module _ (m : Map) (g : GoodMap m) (b : Bank) (size : bankSize ≤ length b) where
-  -- copies of chosen lanes
+  -- a field of a lane that is not chosen keeps its bits
+  source-off : (s lanes e i : ℕ) → T (not (chooses lanes i)) → bankSource m b s lanes e i ≡ kept
+  unfolding bankSource
+  source-off s lanes e i n = rw (is-false (chooses lanes i) n) refl
+
   only-apply : (s lanes : ℕ) → OnlyOn m (chooses lanes) b (applyBank m s lanes b)
-  unfolding bankCopies
   only-apply s lanes =
       apply-keeps m g s lanes b (OnlyOn m (chooses lanes) b)
-      (λ e p i c he f y k.
-      only-then k (only-put m g (chooses lanes) c (rw (k .size) size) 2 e p i _ f (field-lt m b s e p i) (and₂ (chooses lanes i) _ y .0)))
+      (λ e p i x he f k. give e p i x f k (either (chooses lanes i)))
       (only-self m (chooses lanes) b)
+    where
+      give : (e p i : ℕ) (x : Bank) → Field m 2 e p i → OnlyOn m (chooses lanes) b x → T (chooses lanes i) ⊎ T (not (chooses lanes i))
+          → OnlyOn m (chooses lanes) b (putField m x 2 e p i (bitsFrom (bankSource m b s lanes e i) m b s e p i))
+      give e p i x f k (inl y) = only-then k (only-put m g (chooses lanes) x (rw (k .size) size) 2 e p i _ f (given-lt m g s lanes b e p i) y)
+      give e p i x f k (inr n) = rw (source-off s lanes e i n, ← k .lanes i (f .low) (f .top) n .fields 2 e p f, put-own m x 2 e p i) k
 
   does-only : (c : Call) → T (laned c) → Judged m c → OnlyOn m (onLane c) b (bankDoes m c b .1)
   unfolding bankDoes withNumber

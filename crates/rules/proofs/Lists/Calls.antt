@@ -1,31 +1,27 @@
 -- Each of the seven calls, where no check refuses it, keeps the relation of bank and table and gives equal answers.
 use mathlib.Core.Path.{_≡_, refl, sym, ap, _∙_}
-use mathlib.Core.Logic.{_⊎_, inl, inr}
-use mathlib.Core.Bool.{_&&_, not, cond}
 use mathlib.Core.List.{List}
 use Prim.Native.Nat.{ℕ, _+_, _<_}
 use native.Mathlib.Omega.{arith}
 use lib.IntN.{ℤ, pos}
 use lib.ListN.{getD}
-use lib.Dec.{T, ltb, eqb, ltb→lt, eqb→eq}
+use lib.Dec.{ltb, ltb→lt}
 use Rattle.rules.specs.Words.{Call, select, write, read, byteWrite, byteRead, publish, apply, Answer, number}
 use Rattle.rules.specs.Load.{Map}
-use Rattle.rules.specs.Place.{entry, widthOf, isSet, isRW, holds, lengthOf, Field}
+use Rattle.rules.specs.Place.{entry, widthOf, isSet, lengthOf}
 use Rattle.rules.specs.Accept.{toBits}
 use Rattle.rules.specs.Layout.{HasBytes, setStart}
 use Rattle.rules.specs.Refuse.{firstOf, exists, misdirected, unaccepted}
-use Rattle.rules.specs.Bank.{Bank, numberIn, bankCopies, bankPlan, bankDoes}
-use Rattle.rules.specs.Table.{Table, tablePlan, changes, tableDoes}
+use Rattle.rules.specs.Bank.{Bank, bankPlan, bankDoes}
+use Rattle.rules.specs.Table.{Table, tablePlan, tableDoes}
 use Rattle.rules.proofs.Bank.Places.{named-has-bytes}
-use Rattle.rules.proofs.Basics.Tests.{and₂, either, is-true, is-false, and-no}
+use Rattle.rules.proofs.Basics.Tests.{and₂}
 use Rattle.rules.proofs.Place.AcceptedMap.{GoodMap}
-use Rattle.rules.proofs.Place.Fields.{field-holds}
 use Rattle.rules.proofs.Lists.Allowed.{select-allowed, write-field, write-fits, read-field, publish-field, publish-fits, apply-staged}
 use Rattle.rules.proofs.Bank.Bytes.{byte-ext, byte-of-bank}
 use Rattle.rules.proofs.Bank.Gaps.{field-bits}
-use Rattle.rules.proofs.Lists.Relation.{Holds, holds-ext, bits-of, put-holds, select-holds, byte-holds}
-use Rattle.rules.proofs.Apply.Plans.{staged-field, copies-same, plan-same}
-use Rattle.rules.proofs.Apply.Applied.{apply-holds}
+use Rattle.rules.proofs.Lists.Relation.{Holds, bits-of, put-holds, select-holds, byte-holds}
+use Rattle.rules.proofs.Apply.Plans.{plan-same, apply-holds}
 use Rattle.rules.proofs.Refusals.Verdicts.{Judged}
 use Rattle.rules.proofs.Lists.Machines.{Alike}
 
@@ -71,33 +67,9 @@ module _ (m : Map) (g : GoodMap m) (tail : List ℕ) (b : Bank) (t : Table) (r :
   unfolding bankDoes tableDoes
   does-publish e p i v j = record { answer = refl; after = put-holds m g tail b t r 2 e p i v (publish-field m j) (publish-fits m j) }
 
-  -- the table's numbers after apply, from the bank's
-  module _ (s lanes : ℕ) (hs : s < 2) where
-    applied-same :
-        (s′ e p i : ℕ)
-        → Field m s′ e p i
-        → cond (eqb s′ 2 && (isRW m e && bankCopies m b s lanes e i)) (numberIn m b s e p i) (t .numbers s′ e p i)
-        ≡ cond (changes m t s lanes s′ e p i) (t .numbers s e p i) (t .numbers s′ e p i)
-    applied-same s′ e p i f = go (either (eqb s′ 2)) (either (isRW m e))
-      where
-        go : T (eqb s′ 2) ⊎ T (not (eqb s′ 2)) → T (isRW m e) ⊎ T (not (isRW m e))
-            → cond (eqb s′ 2 && (isRW m e && bankCopies m b s lanes e i)) (numberIn m b s e p i) (t .numbers s′ e p i)
-            ≡ cond (changes m t s lanes s′ e p i) (t .numbers s e p i) (t .numbers s′ e p i)
-        go (inl q) (inl h) =
-            let held : T (holds m 2 e p i) = rw (eqb→eq s′ 2 q) at (field-holds f) in
-            rw (
-              is-true (holds m 2 e p i) held,
-              copies-same m g tail b t r s lanes hs e i (f .low) (f .top),
-              r .fields s e p i (staged-field m g tail b t r s lanes hs (ltb→lt _ _ h) (f .part) (f .low) (f .top)),
-            )
-        go (inl q) (inr h) = rw (is-false (isRW m e) h, and-no (eqb s′ 2))
-        go (inr q) h = rw (is-false (eqb s′ 2) q)
-
   does-apply : (s lanes : ℕ) → Judged m (apply s lanes) → Same m tail (bankDoes m (apply s lanes) b) (tableDoes m (apply s lanes) t)
   unfolding bankDoes tableDoes
-  does-apply s lanes j =
-      let hs : s < 2 = apply-staged m j in
-      record { answer = refl; after = holds-ext m tail _ _ _ (apply-holds m g tail t b s lanes hs r) (applied-same s lanes hs) refl }
+  does-apply s lanes j = record { answer = refl; after = apply-holds m g tail b t r s lanes (apply-staged m j) }
 
   pub does : (c : Call) → Judged m c → Same m tail (bankDoes m c b) (tableDoes m c t)
   does (select s i a) j = does-select s i a j

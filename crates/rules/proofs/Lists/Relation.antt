@@ -21,7 +21,7 @@ use Rattle.rules.proofs.Basics.Tests.{and₂, and₄, by-test, is-true,
 use Rattle.rules.proofs.Bank.Places.{set-inside, set-apart, app-inside, app-apart, app-no-set}
 use Rattle.rules.proofs.Place.Lanes.{width-pos}
 use Rattle.rules.proofs.Basics.Digits.{cut-lt}
-use Rattle.rules.proofs.Table.Numbers.{fits, to-lt, from-to, to-from, from-fits}
+use Rattle.rules.proofs.Table.Numbers.{fits, to-lt, from-to, to-from}
 use Rattle.rules.proofs.Place.AcceptedMap.{GoodMap}
 use Rattle.rules.proofs.Place.Fields.{field-holds, field-width, in-set, no-app, own-place, in-byte}
 use Rattle.rules.proofs.Bank.FieldWritten.{eqb₄, get-put, get-put-other, put-bytes, put-elsewhere, put-size, put-beyond, set-bytes}
@@ -38,23 +38,6 @@ pub record Holds (m : Map) (tail : List ℕ) (b : Bank) (t : Table) : Type 0 whe
   pub apps : (s i : ℕ) → s < 2 → 1 ≤ i → i ≤ 8 → appSelIn b s i ≡ t .apps s i
   pub gaps : (s k : ℕ) → HasBytes s → k < 256 → T (not (covered m s k)) → getD b (setStart s + k) 0 ≡ 0
 
--- only the fields that there are count
-pub holds-ext :
-    (m : Map) (tail : List ℕ) (b : Bank) (t t′ : Table)
-    → Holds m tail b t
-    → ((s e p i : ℕ) → Field m s e p i → t .numbers s e p i ≡ t′ .numbers s e p i)
-    → t .apps ≡ t′ .apps
-    → Holds m tail b t′
-holds-ext m tail b t t′ r h a =
-    record {
-      size = r .size;
-      beyond = r .beyond;
-      bytes = r .bytes;
-      fields = λ s e p i f. r .fields s e p i f ∙ h s e p i f;
-      apps = λ s i hs hi hj. rw (← a) (r .apps s i hs hi hj);
-      gaps = r .gaps;
-    }
-
 ne₂ : (a a′ b b′ : ℕ) → T (not (eqb a a′ && eqb b b′)) → a ≡ a′ → b ≡ b′ → ⊥
 ne₂ a a′ b b′ h e f = rw (eq-eqb a a′ e, eq-eqb b b′ f) at h
 
@@ -66,14 +49,10 @@ module _ (m : Map) (g : GoodMap m) (b : Bank) where
   wide : {s e p i : ℕ} → Field m s e p i → 0 < widthOf (entry m e)
   wide {s} {e} f = width-pos (widthOf (entry m e)) (field-width m g f)
 
-  -- a field's bits are its number's, and its number fits
+  -- a field's bits are its number's
   pub bits-of : {s e p i : ℕ} → Field m s e p i → toBits (widthOf (entry m e)) (numberIn m b s e p i) ≡ getField m b s e p i
   unfolding numberIn
   bits-of {s} {e} {p} {i} f = to-from (widthOf (entry m e)) (wide f) (signedOf (entry m e)) _ (field-lt m b s e p i)
-
-  pub number-fits : {s e p i : ℕ} → Field m s e p i → T (fits (signedOf (entry m e)) (widthOf (entry m e)) (numberIn m b s e p i))
-  unfolding numberIn
-  number-fits {s} {e} {p} {i} f = from-fits (widthOf (entry m e)) (wide f) (signedOf (entry m e)) _ (field-lt m b s e p i)
 
 module _ (m : Map) (g : GoodMap m) (tail : List ℕ) (b : Bank) (t : Table) (r : Holds m tail b t) where
   -- a number that fits is put into a field

@@ -1,5 +1,5 @@
 -- What a call leaves of a bank: its length and every byte past its size; and all of it where the call is refused.
-use mathlib.Core.Path.{_≡_, refl, _∙_}
+use mathlib.Core.Path.{_≡_, refl}
 use mathlib.Core.List.{List, [], _++_}
 use Prim.Native.Nat.{ℕ, _+_, _≤_, _<_}
 use native.Mathlib.Omega.{arith}
@@ -18,7 +18,7 @@ use Rattle.rules.proofs.Bank.Places.{set-inside, app-inside, named-has-
 use Rattle.rules.proofs.Place.AcceptedMap.{GoodMap}
 use Rattle.rules.proofs.Load.Walks.{map-good}
 use Rattle.rules.proofs.Place.Fields.{in-bank}
-use Rattle.rules.proofs.Apply.Applied.{apply-keeps}
+use Rattle.rules.proofs.Apply.Applied.{apply-is, apply-beyond}
 use Rattle.rules.proofs.Lists.Allowed.{select-allowed, write-field, publish-field}
 use Rattle.rules.proofs.Refusals.Verdicts.{first-append, Judged, judge-passes}
 use Rattle.rules.proofs.Refusals.Orders.{bank-order-passes}
@@ -32,9 +32,6 @@ record Kept (b after : Bank) : Type 0 where
 kept-self : (b : Bank) → Kept b b
 kept-self b = record { size = refl; beyond = refl }
 
-kept-then : {b c d : Bank} → Kept b c → Kept c d → Kept b d
-kept-then h k = record { size = k .size ∙ h .size; beyond = k .beyond ∙ h .beyond }
-
 kept-set : (b : Bank) (at v : ℕ) → at < bankSize → Kept b (set b at v)
 kept-set b at v h = record { size = length-set b at v; beyond = drop-set-lt bankSize b at v h }
 
@@ -43,21 +40,21 @@ module _ (m : Map) (g : GoodMap m) where
   unfolding putField
   kept-put b s e p i v f = kept-set b _ _ (in-bank m g f)
 
-  kept-apply : (s lanes : ℕ) (b : Bank) → Kept b (applyBank m s lanes b)
-  kept-apply s lanes b = apply-keeps m g s lanes b (Kept b) (λ e p i c he f _ k. kept-then k (kept-put c 2 e p i _ f)) (kept-self b)
+  kept-apply : (s lanes : ℕ) (b : Bank) → bankSize ≤ length b → Kept b (applyBank m s lanes b)
+  kept-apply s lanes b size = let r = apply-is m g s lanes b size in record { size = r .size; beyond = apply-beyond m g s lanes b _ r }
 
   -- an accepted call
-  does-keeps : (c : Call) (b : Bank) → Judged m c → Kept b (bankDoes m c b .1)
+  does-keeps : (c : Call) (b : Bank) → bankSize ≤ length b → Judged m c → Kept b (bankDoes m c b .1)
   unfolding bankDoes withNumber exists
-  does-keeps (select s i a) b j = let (hs, hi, hj, ha) = select-allowed m j in kept-set b (appSelAt s i) a (app-inside s i hs hj)
-  does-keeps (write s e p i v) b j = kept-put b s e p i _ (write-field m g j)
-  does-keeps (read s e p i) b j = kept-self b
-  does-keeps (byteWrite s k v) b j =
+  does-keeps (select s i a) b size j = let (hs, hi, hj, ha) = select-allowed m j in kept-set b (appSelAt s i) a (app-inside s i hs hj)
+  does-keeps (write s e p i v) b size j = kept-put b s e p i _ (write-field m g j)
+  does-keeps (read s e p i) b size j = kept-self b
+  does-keeps (byteWrite s k v) b size j =
       let (h₁, h₂) = and₂ (isSet s) (ltb k (lengthOf m s)) (j .there) in
       kept-set b (setStart s + k) _ (set-inside s k (named-has-bytes s (ltb→lt s 3 h₁)) (omega (arith, ltb→lt k (lengthOf m s) h₂, g .lengths s)))
-  does-keeps (byteRead s k) b j = kept-self b
-  does-keeps (publish e p i v) b j = kept-put b 2 e p i _ (publish-field m j)
-  does-keeps (apply s lanes) b j = kept-apply s lanes b
+  does-keeps (byteRead s k) b size j = kept-self b
+  does-keeps (publish e p i v) b size j = kept-put b 2 e p i _ (publish-field m j)
+  does-keeps (apply s lanes) b size j = kept-apply s lanes b size
 
 module _ (count : ℕ) (first last : List ℕ) (b : Bank) where
   pub call-keeps : (c : Call) → Keeps b (bankCall count first last c b .1) ((x : Refusal) × (bankCall count first last c b .0 ≡ refused x))
@@ -73,7 +70,7 @@ module _ (count : ℕ) (first last : List ℕ) (b : Bank) where
       go passes q =
           let (a, z, r) = bank-order-passes count first last (length b) _ q in
           let j : Judged m c = judge-passes m c (first-append (judge m c) (bankPlan m c b) r .0) in
-          let k = does-keeps m (map-good count first last a) c b j in
+          let k = does-keeps m (map-good count first last a) c b z j in
           record { size = k .size; beyond = k .beyond; whole = λ y. absurd (does-answers m c b (y .0) (y .1)) }
 
   -- a bank of zeros and what stands past them

@@ -9,12 +9,13 @@ use lib.Dec.{T, leb, eqb}
 use borrow.Author.Tests.{ne-eqb}
 use Rattle.rules.specs.Words.{atLane, Call, select, write, read, byteWrite, byteRead, publish, apply}
 use Rattle.rules.specs.Numbers.{bitOf, lowest}
-use Rattle.rules.specs.Descriptor.{isApp}
+use Rattle.rules.specs.Descriptor.{isApp, hasApp}
 use Rattle.rules.specs.Load.{Map}
 use Rattle.rules.specs.Place.{entry, partsOf}
 use Rattle.rules.specs.Accept.{accepts}
 use Rattle.rules.specs.Refuse.{passes, refuses, chooses, atLowest}
-use Rattle.rules.specs.Bank.{Bank, numberIn, appSelIn, bankLacksApp, bankCopies, bankHoldsBad, bankPlan}
+use Rattle.rules.specs.Source.{kept, copied, isCopied}
+use Rattle.rules.specs.Bank.{Bank, numberIn, appSelIn, bankLacksApp, bankSource, bankHoldsBad, bankPlan}
 use Rattle.rules.specs.Columns.{Accepts}
 use Rattle.rules.specs.Conditions.{Lowest, LacksApp, Copied, HoldsBad, planRules}
 use Rattle.rules.proofs.Basics.Tests.{from-true}
@@ -92,19 +93,26 @@ lacks-app count a = Iff·trans (not-says (isApp count a) (app-says count a)) (λ
     back (inl z) h = omega arith
     back (inr l) h = omega arith
 
+-- a field to be copied
+is-copied : (t : Bool) → isCopied (cond t copied kept) ≡ t
+is-copied true = refl
+is-copied false = refl
+
 module _ (m : Map) (b : Bank) (s lanes : ℕ) where
   lacks-says : (i : ℕ) → T (bankLacksApp m b s lanes i) ↔ LacksApp m b s lanes i
   unfolding bankLacksApp
   lacks-says i = and-says (chooses lanes i) (not (isApp (m .count) (appSelIn b s i))) Iff·rfl (lacks-app (m .count) (appSelIn b s i))
 
-  copies-says : (e i : ℕ) → T (bankCopies m b s lanes e i) ↔ Copied m b s lanes e i
-  unfolding bankCopies
-  copies-says e i = (λ h. let (c, (l, u), t) = says .0 h in (c, l, u, t), λ h. says .1 (h .0, (h .1, h .2), h .3))
+  copied-says : (e i : ℕ) → T (isCopied (bankSource m b s lanes e i)) ↔ Copied m b s lanes e i
+  unfolding bankSource
+  copied-says e i =
+      rw (is-copied (chooses lanes i && hasApp (m .count) (entry m e .mask) (appSelIn b s i)))
+      (λ h. let (c, (l, u), t) = says .0 h in (c, l, u, t), λ h. says .1 (h .0, (h .1, h .2), h .3))
     where
       a : ℕ
       a = appSelIn b s i
 
-      says : T (bankCopies m b s lanes e i) ↔ (T (chooses lanes i) × ((1 ≤ a) × (a ≤ m .count)) × T (bitOf (entry m e .mask) (a - 1)))
+      says : T (chooses lanes i && hasApp (m .count) (entry m e .mask) a) ↔ (T (chooses lanes i) × ((1 ≤ a) × (a ≤ m .count)) × T (bitOf (entry m e .mask) (a - 1)))
       says = and-says₃ (chooses lanes i) (isApp (m .count) a) (bitOf (entry m e .mask) (a - 1)) Iff·rfl (app-says (m .count) a) Iff·rfl
 
   -- 14
@@ -113,9 +121,9 @@ module _ (m : Map) (b : Bank) (s lanes : ℕ) where
   holds-says i = (to, back)
     where
       says : (e p : ℕ)
-          → T (bankCopies m b s lanes e i && not (accepts (entry m e) (numberIn m b s e p i)))
+          → T (isCopied (bankSource m b s lanes e i) && not (accepts (entry m e) (numberIn m b s e p i)))
           ↔ (Copied m b s lanes e i × ¬ (Accepts (entry m e) (numberIn m b s e p i)))
-      says e p = and-says (bankCopies m b s lanes e i) _ (copies-says e i) (not-says (accepts (entry m e) (numberIn m b s e p i)) (accepts-says (entry m e) _))
+      says e p = and-says (isCopied (bankSource m b s lanes e i)) _ (copied-says e i) (not-says (accepts (entry m e) (numberIn m b s e p i)) (accepts-says (entry m e) _))
 
       back : HoldsBad m b s lanes i → T (bankHoldsBad m b s lanes i)
       back h =

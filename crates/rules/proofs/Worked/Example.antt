@@ -15,8 +15,8 @@ use Rattle.rules.specs.Place.{entry, partsOf, widthOf, signedOf, heldBy,
 use Rattle.rules.specs.Accept.{within, inMask, takes, accepts, toBits, fromBits}
 use Rattle.rules.specs.Refuse.{check9, check8, checkEntries, exists, misdirected, unaccepted, judge, atLowest, bankOrder, orderOf}
 use Rattle.rules.specs.Layout.{bankSize, hasBytes, setStart, appSelStart, appSelAt}
-use Rattle.rules.specs.Bank.{Bank, getField, putField, numberIn, withNumber, fieldBits, bankLacksApp, bankCopies, bankHoldsBad, bankPlan, loop, copyField, applyBank, bankDoes, bankCall, freshBank, freshCall, bankMakes}
-use Rattle.rules.specs.Table.{byteFrom, tableLacksApp, tableCopies, tableHoldsBad, tablePlan, tableDoes, tableCall, tableMakes}
+use Rattle.rules.specs.Bank.{Bank, getField, putField, numberIn, withNumber, fieldBits, bankLacksApp, bankSource, bankHoldsBad, bankPlan, loop, giveField, applyBank, bankDoes, bankCall, freshBank, freshCall, bankMakes}
+use Rattle.rules.specs.Table.{byteFrom, tableLacksApp, tableSource, tableHoldsBad, tablePlan, tableDoes, tableCall, tableMakes}
 use Rattle.rules.specs.Machine.{call, run}
 use Rattle.rules.specs.Address.{lineOf, bytesFrom, addressOf}
 use Rattle.rules.specs.Beside.{placeOf, ownerAtCall}
@@ -126,12 +126,12 @@ example-accepted = record { rwCount = 4; roCount = 1; staged = 16; active = 24; 
 
 -- the bank machine, computed
 pub example-bank : bankRun 2 rwString roString bank (map call calls) .0 ≡ answers
-unfolding sum any lowest rowOf maskBytes highFirst codesOf byteOf refuse lengthChecks contentChecks decodeWithin foldBy foldOf walkWithin entriesWithin restWithin stringsWithin loadOf rwWithin roWithin bothWithin total mapWithin partsOf widthOf signedOf heldBy lengthOf firstOwner ownerOf within inMask takes accepts toBits fromBits check9 check8 checkEntries exists misdirected unaccepted judge atLowest bankOrder getField putField numberIn withNumber fieldBits bankLacksApp bankCopies bankHoldsBad bankPlan loop copyField applyBank bankDoes bankCall freshBank freshCall bankMakes run bankSize setStart appSelStart appSelAt
+unfolding sum any lowest rowOf maskBytes highFirst codesOf byteOf refuse lengthChecks contentChecks decodeWithin foldBy foldOf walkWithin entriesWithin restWithin stringsWithin loadOf rwWithin roWithin bothWithin total mapWithin partsOf widthOf signedOf heldBy lengthOf firstOwner ownerOf within inMask takes accepts toBits fromBits check9 check8 checkEntries exists misdirected unaccepted judge atLowest bankOrder getField putField numberIn withNumber fieldBits bankLacksApp bankSource bankHoldsBad bankPlan loop giveField applyBank bankDoes bankCall freshBank freshCall bankMakes run bankSize setStart appSelStart appSelAt
 example-bank = refl
 
 -- the plain table, computed
 pub example-table : tableRun 2 rwString roString (map call calls) .0 ≡ answers
-unfolding sum any lowest rowOf maskBytes highFirst codesOf byteOf refuse lengthChecks contentChecks decodeWithin foldBy foldOf walkWithin entriesWithin restWithin stringsWithin loadOf rwWithin roWithin bothWithin total mapWithin partsOf widthOf signedOf heldBy lengthOf within inMask takes accepts toBits fromBits check9 checkEntries exists misdirected unaccepted judge atLowest orderOf byteFrom tableLacksApp tableCopies tableHoldsBad tablePlan tableDoes tableCall tableMakes run hasBytes
+unfolding sum any lowest rowOf maskBytes highFirst codesOf byteOf refuse lengthChecks contentChecks decodeWithin foldBy foldOf walkWithin entriesWithin restWithin stringsWithin loadOf rwWithin roWithin bothWithin total mapWithin partsOf widthOf signedOf heldBy lengthOf within inMask takes accepts toBits fromBits check9 checkEntries exists misdirected unaccepted judge atLowest orderOf byteFrom tableLacksApp tableSource tableHoldsBad tablePlan tableDoes tableCall tableMakes run hasBytes
 example-table = refl
 
 -- demand 3 of this module, bank and list: its premises are met

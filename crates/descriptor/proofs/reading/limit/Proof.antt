@@ -7,8 +7,7 @@ use mir.Syntax.{w64}
 use mir.Val.{toZ}
 use mir.Facts.{toZ-ofZ, toZ-pos}
 use Rattle.descriptor.specs.Wide.{limitBy}
-use Rattle.descriptor.proofs.EntryLines.{lowered}
-use Rattle.descriptor.proofs.Wides.{turned}
+use Rattle.descriptor.proofs.Wides.{turned, lowered}
 use Rattle.descriptor.proofs.reading.limit.Statement.{statement}
 use Rattle.descriptor.proofs.reading.limit.Tie as tie
 
