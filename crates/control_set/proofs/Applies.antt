@@ -2,7 +2,7 @@
 use mathlib.Core.Path.{_≡_, refl, sym, ap, ap₂, _∙_}
 use mathlib.Core.Logic.{_⊎_, inl, inr, _≢_}
 use mathlib.Core.Bool.{Bool, true, false, _&&_, not, cond}
-use mathlib.Core.List.{List, [], _++_}
+use mathlib.Core.List.{List, _++_}
 use Prim.Native.Nat.{ℕ, _+_, _-_, _*_, _^_, _≤_, _<_}
 use native.Mathlib.Omega.{arith}
 use native.Mathlib.Decide.{decLt}
@@ -17,26 +17,27 @@ use Rattle.rules.specs.declared.Refusal.the-variants.{Plain as plain, AtLane as
 use Rattle.rules.specs.Numbers.{cut, any, lowest}
 use Rattle.rules.specs.Descriptor.{maskBytes, byteAt, highFirst, hasApp}
 use Rattle.rules.specs.Load.{loadOf, rwEntries, Map, mapOf, mapWithin, readOf}
-use Rattle.rules.specs.Place.{nothing, entry, partsOf, widthOf, signedOf, fieldByte, fieldBit, isSet, Field}
-use Rattle.rules.specs.Accept.{accepts, fromBits}
+use Rattle.rules.specs.Place.{entry, partsOf, widthOf, signedOf, fieldByte, fieldBit, isSet, Field}
+use Rattle.rules.specs.Accept.{accepts}
 use Rattle.rules.specs.Layout.{bankSize, setStart}
 use Rattle.rules.specs.Refuse.{firstOf, bankOrder, exists, misdirected, unaccepted, judge, chooses, passes, refuses, atLowest}
 use Rattle.rules.specs.Source.{kept, copied, isCopied}
 use Rattle.rules.specs.Bank.{Bank, fieldAt, getField, numberIn, appSelIn, bankLacksApp, bankSource, bitsFrom, bankHoldsBad, bankPlan, applyBank, bankDoes, bankCall}
 use Rattle.rules.specs.Demands.{Accepted}
 use Rattle.rules.proofs.Apply.Applied.{Applied, apply-is, apply-bytes, applied-one}
-use Rattle.rules.proofs.Bank.Places.{named-has-bytes, set-inside, size-is}
+use Rattle.rules.proofs.Bank.Places.{named-has-bytes, set-inside}
 use Rattle.rules.proofs.Basics.Any.{any-ext}
 use Rattle.rules.proofs.Basics.Tests.{by-test}
 use Rattle.rules.proofs.Load.Checks.{high-one, high-two}
 use Rattle.rules.proofs.Load.EntryHeads.{in-rw}
 use Rattle.rules.proofs.Load.Walks.{map-good, load-accepted}
-use Rattle.rules.proofs.Place.AcceptedMap.{GoodMap, GoodEntry, rw-held, entry-good, entry-ends, entries-apart}
+use Rattle.rules.proofs.Place.AcceptedMap.{GoodMap, rw-held, entry-good, entry-ends, entries-apart}
 use Rattle.rules.proofs.Place.CoveredBytes.{In, in-field}
 use Rattle.rules.proofs.Place.Fields.{in-set, in-byte}
 use Rattle.rules.proofs.Place.Owners.{covers-says}
 use Rattle.rules.proofs.Refusals.CallOrder.{call-refused, call-does, judge-ok}
 use Rattle.rules.proofs.Refusals.Orders.{bank-order-accepted}
+use Rattle.rules.proofs.Refusals.PlanRules.{is-copied}
 use Rattle.descriptor.specs.Find.{namedOf}
 use Rattle.descriptor.proofs.Accepts.{coded-ends, coded-width}
 use Rattle.descriptor.proofs.EntryReads.{read-entry}
@@ -45,11 +46,11 @@ use Rattle.control_set.specs.declared.plan.Chosen.{Chosen}
 use Rattle.control_set.specs.Field.{bitsAt}
 use Rattle.control_set.specs.Gate.{Opened}
 use Rattle.control_set.specs.Lanes.{Lanes, NoLane}
-use Rattle.control_set.specs.Plan.{Asked, Arranged, rwEntry, fieldsOf, Walk, acceptsBits, copiesBy, lacksBy, refusedAt, refusedIn, refusedAmong, Planned, Merged, mergeBy}
+use Rattle.control_set.specs.Plan.{Asked, Arranged, rwEntry, fieldsOf, Walk, acceptsBits, copiesBy, lacksBy, refusedAt, refusedIn, refusedAmong, Planned, Merged}
 use Rattle.control_set.proofs.JudgedFields.{bits-judged}
 use Rattle.control_set.proofs.LaneMasks.{any-clear, lanes-lowest, lanes-clear}
 use Rattle.control_set.proofs.Masks.{cut-merged, merge-by-lt, merge-by-none}
-use Rattle.control_set.proofs.Outcomes.{opened-accepted, count-top, call-10, call-11}
+use Rattle.control_set.proofs.Outcomes.{count-top, call-10, call-11}
 use Rattle.control_set.proofs.Spots.{bits-at-lt, number-field}
 
 -- an application mask of bytes
@@ -64,21 +65,17 @@ and-any : (t : Bool) (n : ℕ) (f : ℕ → Bool) → (t && any n f) ≡ any n (
 and-any true n f = refl
 and-any false n f = sym (any-clear n (λ k. false) (λ k. refl))
 
-is-copied : (t : Bool) → isCopied (cond t copied kept) ≡ t
-is-copied true = refl
-is-copied false = refl
-
 from-source : (t : Bool) (m : Map) (b : Bank) (s e p i : ℕ) → bitsFrom (cond t copied kept) m b s e p i ≡ cond t (getField m b s e p i) (getField m b 2 e p i)
 from-source true m b s e p i = refl
 from-source false m b s e p i = refl
 
 -- 13 and 14 by a mask of lanes
 module _ (number : ℕ) (f : ℕ → Bool) (lanes : ℕ) {k : ℕ} (h : Lanes 9 f lanes) (q : k ≡ lowest 8 1 (chooses lanes)) where
-  pub lowest-refuses : k ≢ 0 → atLowest number f ≡ refuses (atLane number k)
+  lowest-refuses : k ≢ 0 → atLowest number f ≡ refuses (atLane number k)
   unfolding atLowest
   lowest-refuses ne = rw (← lanes-lowest f lanes h, ← q, ne-eqb k 0 ne) refl
 
-  pub lowest-passes : k ≡ 0 → atLowest number f ≡ passes
+  lowest-passes : k ≡ 0 → atLowest number f ≡ passes
   unfolding atLowest
   lowest-passes z = rw (← lanes-lowest f lanes h, ← q, z) refl
 

@@ -23,7 +23,7 @@ use Rattle.descriptor.specs.Find.{namedOf, acceptedIn}
 use Rattle.descriptor.proofs.Accepts.{named-accepts}
 use Rattle.descriptor.specs.declared.Named.{Named}
 use Rattle.control_set.specs.Field.{Spot, bitsAt}
-use Rattle.control_set.specs.Plan.{LowCodes, fieldsOf, acceptsBits, Spread, spansEvery, refusedAt, refusedIn}
+use Rattle.control_set.specs.Plan.{LowCodes, fieldsOf, acceptsBits, Placed, spansEvery, refusedAt, refusedIn}
 use Rattle.control_set.specs.Values.{numberBy}
 use Rattle.control_set.proofs.LaneMasks.{any-clear}
 use Rattle.control_set.proofs.Spots.{bits-at-lt}
@@ -33,7 +33,7 @@ use Rattle.control_set.proofs.Values.{number-named}
 pub spread-spot :
     {f : Named} (b : Bank)
     → bankSize ≤ length b
-    → Spread f
+    → Placed f
     → (s : ℕ) → HasBytes s
     → (p i : ℕ) → p < f .parts → 1 ≤ i → i ≤ 8
     → Spot b s (f .offset) p (f .width) i

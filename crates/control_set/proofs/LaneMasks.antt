@@ -9,25 +9,21 @@ use native.Mathlib.Omega.{arith}
 use native.Mathlib.Decide.{ℕ-discrete}
 use native.Mathlib.Numerals.{add-one}
 use lib.Arith.{digits-lt}
-use lib.Bits.{bitAnd, bitOr, and-shr, and-mod, or-shr, or-mod}
-use lib.Dec.{eqb, leb, leb→le}
+use lib.Bits.{bitAnd, bitOr}
+use lib.Dec.{eqb}
 use lib.ListN.{length, getD, set, length-set}
 use lib.Seq.{getD-set-same, getD-set-other}
 use lib.Pow.{pow-pos, pow-add, pow-mono, ones-lt, high, low, shr-shr}
 use Rattle.rules.specs.Numbers.{cut, any, lowest}
-use Rattle.rules.specs.Descriptor.{isApp}
 use Rattle.rules.specs.Place.{laneByte, laneBit, Width}
 use Rattle.rules.specs.Refuse.{chooses}
 use Rattle.rules.specs.Bank.{merge}
 use Rattle.rules.proofs.Basics.Any.{lowest-ext}
 use Rattle.rules.proofs.Basics.Digits.{cut-merge, cut-merge-other}
-use Rattle.rules.proofs.Basics.Tests.{and₂, from-true}
 use Rattle.rules.proofs.Place.Lanes.{lane-room}
+use Rattle.descriptor.proofs.Bits.{and-bit, or-bit}
 use Rattle.control_set.specs.Lanes.{Lanes, NoLane, Spreads, SpreadsAll}
 use Rattle.control_set.proofs.Masks.{cut-cut}
-
-pub app-range : (count a : ℕ) → isApp count a ≡ true → (1 ≤ a) × (a ≤ count)
-app-range count a h = let (x, y) = and₂ (leb 1 a) (leb a count) (from-true h) in (leb→le 1 a x, leb→le a count y)
 
 -- lane by lane
 pub lanes-none : (f : ℕ → Bool) (x : ℕ) → Lanes 1 f x
@@ -57,36 +53,12 @@ lanes-next k f lanes v h l u q i li ui = go (ℕ-discrete i k)
         ∙ h i li (omega arith)
 
 -- the lanes of both masks, and of one of them
-and-bit : (x y : ℕ) → x < 2 → y < 2 → eqb (bitAnd x y) 1 ≡ (eqb x 1 && eqb y 1)
-and-bit zero zero hx hy = refl
-and-bit zero (suc zero) hx hy = refl
-and-bit (suc zero) zero hx hy = refl
-and-bit (suc zero) (suc zero) hx hy = refl
-and-bit zero (suc (suc y)) hx hy = absurd (omega arith)
-and-bit (suc zero) (suc (suc y)) hx hy = absurd (omega arith)
-and-bit (suc (suc x)) y hx hy = absurd (omega arith)
-
-or-bit : (x y : ℕ) → x < 2 → y < 2 → eqb (bitOr x y) 1 ≡ (eqb x 1 || eqb y 1)
-or-bit zero zero hx hy = refl
-or-bit zero (suc zero) hx hy = refl
-or-bit (suc zero) zero hx hy = refl
-or-bit (suc zero) (suc zero) hx hy = refl
-or-bit zero (suc (suc y)) hx hy = absurd (omega arith)
-or-bit (suc zero) (suc (suc y)) hx hy = absurd (omega arith)
-or-bit (suc (suc x)) y hx hy = absurd (omega arith)
-
 module _ {f g : ℕ → Bool} (a b : ℕ) (p : Lanes 9 f a) (q : Lanes 9 g b) where
   pub lanes-and : Lanes 9 (λ i. f i && g i) (bitAnd a b)
-  lanes-and i l u =
-      ap (λ n. eqb n 1) (ap (λ n. n % 2) (and-shr a b (i - 1)) ∙ and-mod (a / 2 ^ (i - 1)) (b / 2 ^ (i - 1)) 1)
-      ∙ and-bit _ _ (mod-lt (a / 2 ^ (i - 1)) (omega arith)) (mod-lt (b / 2 ^ (i - 1)) (omega arith))
-      ∙ ap₂ _&&_ (p i l u) (q i l u)
+  lanes-and i l u = and-bit a b (i - 1) ∙ ap₂ _&&_ (p i l u) (q i l u)
 
   pub lanes-or : Lanes 9 (λ i. f i || g i) (bitOr a b)
-  lanes-or i l u =
-      ap (λ n. eqb n 1) (ap (λ n. n % 2) (or-shr a b (i - 1)) ∙ or-mod (a / 2 ^ (i - 1)) (b / 2 ^ (i - 1)) 1)
-      ∙ or-bit _ _ (mod-lt (a / 2 ^ (i - 1)) (omega arith)) (mod-lt (b / 2 ^ (i - 1)) (omega arith))
-      ∙ ap₂ _||_ (p i l u) (q i l u)
+  lanes-or i l u = or-bit a b (i - 1) ∙ ap₂ _||_ (p i l u) (q i l u)
 
 -- of several: f 0 .. f (n - 1) so far, then f n
 module _ (f : ℕ → ℕ → Bool) (n : ℕ) where
@@ -150,7 +122,7 @@ pub width-le : (w : ℕ) → Width w → w ≤ 8
 width-le w h = omega (arith, lane-room w h 1 (omega arith))
 
 -- no lane
-pub spreads-zero : (w : ℕ) → Spreads w 0 0
+spreads-zero : (w : ℕ) → Spreads w 0 0
 spreads-zero w =
     record {
       lane = λ i l u. rw (lanes-zero i, zero-div (2 ^ ((i - 1) * w))) (zero-mod (2 ^ w));

@@ -17,7 +17,6 @@ use Rattle.rules.specs.Layout.{bankSize, setStart}
 use Rattle.rules.specs.Refuse.{chooses}
 use Rattle.rules.specs.Bank.{Bank, appSelIn}
 use Rattle.descriptor.specs.declared.Named.{Named}
-use Rattle.descriptor.specs.declared.Read.{Read}
 use Rattle.descriptor.specs.declared.search.Mark.{Mark}
 use Rattle.descriptor.specs.Rows.{classes, shapes}
 use Rattle.descriptor.specs.Marks.{markAfter}
@@ -36,7 +35,7 @@ pub record Asked (c : Chosen) (b : Bank) : Type 0 where
   pub size : bankSize ≤ length b
 
 -- the fields of an entry, in a set's 256 bytes; a code has 4 bits
-pub record Spread (f : Named) : Type 0 where
+pub record Placed (f : Named) : Type 0 where
   pub whole : 0 < f .parts → Width (f .width)
   pub inside : f .offset + f .parts * f .width ≤ 256
   pub coded : f .coded ≡ true → f .width ≡ 4
@@ -50,7 +49,7 @@ fieldsOf e = namedOf false e
 
 -- n entries, by number: the fields of one end before those of the next begin
 pub record Arranged (n : ℕ) (h : ℕ → Entry) : Type 0 where
-  pub spread : (e : ℕ) → e < n → Spread (fieldsOf (h e))
+  pub spread : (e : ℕ) → e < n → Placed (fieldsOf (h e))
   pub codes : (e : ℕ) → e < n → LowCodes (fieldsOf (h e))
   pub masks : (e : ℕ) → e < n → h e .mask < 0x10000
   pub order : (e e′ : ℕ)
@@ -100,20 +99,20 @@ pub record Cached (c : Chosen) (b : Bank) (last : Last) (spreads : List ℕ) : T
   pub spread : SpreadsAll (last .lanes) spreads
 
 -- all are bytes
-abbrev pub Bytes : List ℕ → Type 0
-Bytes l = (k : ℕ) → getD l k 0 < 256
+abbrev pub AllBytes : List ℕ → Type 0
+AllBytes l = (k : ℕ) → getD l k 0 < 256
 
 -- the plan, a byte for each of a set: n bytes from one on have some bits, the others are as they were
 pub record Laid (n at bits : ℕ) (old new : List ℕ) : Type 0 where
   pub size : length new ≡ length old
-  pub small : Bytes old → Bytes new
+  pub small : AllBytes old → AllBytes new
   pub here : (j : ℕ) → j < n → getD new (at + j) 0 ≡ cut bits (8 * j) 8
   pub rest : (k : ℕ) → (k < at) ⊎ (at + n ≤ k) → getD new k 0 ≡ getD old k 0
 
 -- n parts of an entry have the same bits, what stands before them is as it was, and behind them all is 0
 pub record Parts (n : ℕ) (f : Named) (bits : ℕ) (old new : List ℕ) : Type 0 where
   pub size : length new ≡ length old
-  pub small : Bytes old → Bytes new
+  pub small : AllBytes old → AllBytes new
   pub here : (p j : ℕ) → p < n → j < f .width → getD new (f .offset + p * f .width + j) 0 ≡ cut bits (8 * j) 8
   pub before : (k : ℕ) → k < f .offset → getD new k 0 ≡ getD old k 0
   pub behind : (k : ℕ) → f .offset + n * f .width ≤ k → getD new k 0 ≡ 0
@@ -121,7 +120,7 @@ pub record Parts (n : ℕ) (f : Named) (bits : ℕ) (old new : List ℕ) : Type 
 -- the plan of n entries: all bits of the fields that are copied, and no others
 pub record Planned (c : Chosen) (n : ℕ) (h : ℕ → Entry) (b : Bank) (plan : List ℕ) : Type 0 where
   pub size : length plan ≡ 264
-  pub small : Bytes plan
+  pub small : AllBytes plan
   pub fields : (e p i : ℕ)
       → e < n
       → p < fieldsOf (h e) .parts

@@ -7,7 +7,7 @@ ghost use lib.ListN.{length};
 ghost use Rattle.rules.specs.Numbers.{bitOf};
 ghost use Rattle.rules.specs.Layout.{bankSize};
 ghost use Rattle.control_set.specs.Lanes.{Lanes};
-ghost use Rattle.control_set.specs.Plan.{Spread, LowCodes, acceptsBits, spansEvery, refusedAt, refusedIn};
+ghost use Rattle.control_set.specs.Plan.{Placed, LowCodes, acceptsBits, spansEvery, refusedAt, refusedIn};
 use crate::accept::accepts;
 use crate::bank::read_field;
 use crate::lanes::with_lane;
@@ -22,7 +22,7 @@ fn fits_entry(f: Named, bits: u8) -> bool
     accepts(f.low, f.high, f.coded, f.codes, number_of(f.signed, bits))
 }
 
-// Where there is a code mask.
+// Whether a code mask has a code.
 fn has_code(codes: usize, bits: u8) -> bool
     requires { ⌜ bits < 16 ⌝ }
     ensures { λ r. ⌜ r ≡ bitOf codes bits ⌝ }
@@ -30,9 +30,9 @@ fn has_code(codes: usize, bits: u8) -> bool
     (codes >> bits) & 1 == 1
 }
 
-// The lanes of such a part that hold no accepted code. A code has 4 bits.
+// The lanes of a part that hold no accepted code, where there is a code mask. A code has 4 bits.
 fn refused_codes(set: usize, f: Named, part: usize, bank: &[u8]) -> u8
-    requires { ⌜ (set < 2) × (bankSize ≤ length (now bank)) × Spread f × LowCodes f × (part < f .parts) ⌝ }
+    requires { ⌜ (set < 2) × (bankSize ≤ length (now bank)) × Placed f × LowCodes f × (part < f .parts) ⌝ }
     requires { ⌜ f .coded ≡ true ⌝ }
     ensures { λ r. ⌜ Lanes 9 (refusedAt set f (now (bank .entry)) part) r ⌝ }
 {
@@ -46,9 +46,9 @@ fn refused_codes(set: usize, f: Named, part: usize, bank: &[u8]) -> u8
     lanes
 }
 
-// The lanes of any part, with fields of a width, that hold no accepted value.
+// The lanes of any part that hold no accepted value; its fields have this width.
 fn refused_values(set: usize, f: Named, part: usize, width: usize, bank: &[u8]) -> u8
-    requires { ⌜ (set < 2) × (bankSize ≤ length (now bank)) × Spread f × LowCodes f × (part < f .parts) ⌝ }
+    requires { ⌜ (set < 2) × (bankSize ≤ length (now bank)) × Placed f × LowCodes f × (part < f .parts) ⌝ }
     requires { ⌜ width ≡ f .width ⌝ }
     ensures { λ r. ⌜ Lanes 9 (refusedAt set f (now (bank .entry)) part) r ⌝ }
 {
@@ -62,9 +62,10 @@ fn refused_values(set: usize, f: Named, part: usize, width: usize, bank: &[u8]) 
     lanes
 }
 
-// The same with the width as a constant, so that each lane's byte and shift are.
+// The lanes of a part that are refused. The width is a constant in each call: as a variable it makes the compiler write every lane out
+// for every way to judge it.
 fn refused_in_part(set: usize, f: Named, part: usize, bank: &[u8]) -> u8
-    requires { ⌜ (set < 2) × (bankSize ≤ length (now bank)) × Spread f × LowCodes f × (part < f .parts) ⌝ }
+    requires { ⌜ (set < 2) × (bankSize ≤ length (now bank)) × Placed f × LowCodes f × (part < f .parts) ⌝ }
     ensures { λ r. ⌜ Lanes 9 (refusedAt set f (now (bank .entry)) part) r ⌝ }
 {
     if f.coded {
@@ -102,9 +103,9 @@ fn spans_all(f: Named) -> bool
     (f.low <= 0) & (top_of(f.width) <= f.high)
 }
 
-// In an entry with fields. One that accepts every number isn't judged.
+// The refused lanes of an entry with fields. One that has no code mask and accepts every number isn't judged.
 pub fn refused_in(set: usize, f: Named, bank: &[u8]) -> u8
-    requires { ⌜ (set < 2) × (bankSize ≤ length (now bank)) × Spread f × LowCodes f × (0 < f .parts) ⌝ }
+    requires { ⌜ (set < 2) × (bankSize ≤ length (now bank)) × Placed f × LowCodes f × (0 < f .parts) ⌝ }
     ensures { λ r. ⌜ Lanes 9 (refusedIn set f (now (bank .entry))) r ⌝ }
 {
     if !f.coded & spans_all(f) {

@@ -6,7 +6,7 @@ ghost use Rattle.rules.specs.Descriptor.{isApp};
 ghost use Rattle.rules.specs.Layout.{bankSize};
 ghost use Rattle.rules.specs.Bank.{appSelIn};
 ghost use Rattle.control_set.specs.Lanes.{Lanes, NoLane};
-ghost use Rattle.control_set.specs.Plan.{Asked, Spread, rwEntry, Walk, lacksBy, copiesBy, refusedAmong, Cached, Laid, Parts, Planned};
+ghost use Rattle.control_set.specs.Plan.{Asked, Placed, rwEntry, Walk, lacksBy, copiesBy, refusedAmong, Cached, Laid, Parts, Planned};
 use crate::bank::app_sel_at;
 use crate::judge::refused_in;
 use crate::lanes::has_lane;
@@ -115,14 +115,14 @@ fn plan_part(plan: &mut [u8; 264], at: usize, bits: usize)
 {
     let mut j = 0;
     while j < 8 {
-        plan[at + j] = ((bits >> (8 * j)) % 256) as u8;
+        plan[at + j] = ((bits >> (8 * j)) & 255) as u8;
         j += 1;
     }
 }
 
 // The same bits in every part of an entry.
 fn plan_entry(plan: &mut [u8; 264], f: Named, bits: usize)
-    requires { ⌜ Spread f × (bits < 2 ^ (8 * f .width)) × (length (now plan) ≡ 264) × Parts 0 f bits (now plan) (now plan) ⌝ }
+    requires { ⌜ Placed f × (bits < 2 ^ (8 * f .width)) × (length (now plan) ≡ 264) × Parts 0 f bits (now plan) (now plan) ⌝ }
     ensures { λ _. ⌜ Parts (f .parts) f bits (now (plan .entry)) (now (plan .exit)) ⌝ }
 {
     let mut part = 0;

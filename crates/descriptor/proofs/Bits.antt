@@ -1,10 +1,10 @@
--- Tests of a mask's bits, and the bits of two masks joined.
+-- The bits of two masks joined.
 use mathlib.Core.Path.{_≡_, refl, ap, _∙_}
-use mathlib.Core.Bool.{_&&_, _||_, not}
+use mathlib.Core.Bool.{_&&_, _||_}
 use Prim.Native.Nat.{ℕ, zero, suc, _/_, _%_, _^_, _<_}
 use native.Mathlib.Nat.{mod-lt}
 use native.Mathlib.Omega.{arith}
-use lib.Bits.{bitAnd, bitOr, and-mask, and-shr, and-mod, or-shr, or-mod}
+use lib.Bits.{bitAnd, bitOr, and-shr, and-mod, or-shr, or-mod}
 use lib.Dec.{eqb}
 use Rattle.rules.specs.Numbers.{bitOf}
 
@@ -25,15 +25,6 @@ bit-or (suc zero) zero hx hy = refl
 bit-or (suc zero) (suc zero) hx hy = refl
 bit-or (suc zero) (suc (suc y)) hx hy = absurd (omega arith)
 bit-or (suc (suc x)) y hx hy = absurd (omega arith)
-
-bit-not : (x : ℕ) → x < 2 → eqb x 0 ≡ not (eqb x 1)
-bit-not zero h = refl
-bit-not (suc zero) h = refl
-bit-not (suc (suc x)) h = absurd (omega arith)
-
--- the test that a bit is 0
-pub bit-off : (x n : ℕ) → eqb (bitAnd (x / 2 ^ n) 1) 0 ≡ not (bitOf x n)
-bit-off x n = rw (and-mask (x / 2 ^ n) 1) (bit-not (x / 2 ^ n % 2) (mod-lt (x / 2 ^ n) (omega arith)))
 
 pub and-bit : (x y n : ℕ) → bitOf (bitAnd x y) n ≡ (bitOf x n && bitOf y n)
 and-bit x y n =

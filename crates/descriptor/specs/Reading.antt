@@ -45,7 +45,8 @@ readOf classes shapes e =
       end = e .offset + e .memory;
     }
 
--- a place at which an entry can stand: its first bytes up to MemoryLength are in the string, and its space begins in a set
+-- a place at which an entry can stand (`Marks.OnEntry`): its first bytes up to MemoryLength are in the string, of at most 120 bytes, and
+-- its space begins in a set, of at most 256
 abbrev pub canStand : ℕ → List ℕ → ℕ → ℕ → Bool
 canStand a s start offset = (leb start 120 && leb offset 256) && ltb (start + 2 + a) (length s)
 

@@ -47,7 +47,8 @@ use rules::Passed;
 use rules::Refusal;
 use rules::State;
 
-// The rows of the table that `entry_read` is lent: a call names them once.
+// The rows of the table that `entry_read` is lent: a call names them once. By these it says of an entry what the table says (`read-entry`
+// of proofs/EntryReads).
 pub use crate::table::CLASSES;
 pub use crate::table::SHAPES;
 

@@ -2,7 +2,7 @@
 use borrow.Author.Needs.{needs}
 use mathlib.Core.Path.{_≡_, refl, sym, _∙_}
 use mathlib.Core.Bool.{true, false}
-use Prim.Native.Nat.{_≤_, _<_}
+use Prim.Native.Nat.{_≤_}
 use native.Mathlib.Omega.{arith}
 use lib.ListN.{length}
 use lib.Dec.{eqb}
@@ -13,7 +13,6 @@ use Rattle.rules.specs.declared.Loaded.the-variants.{Accepted as accepted}
 use Rattle.rules.specs.Load.{loadOf}
 use Rattle.rules.specs.Place.{isSet}
 use Rattle.rules.specs.Layout.{bankSize}
-use Rattle.rules.proofs.Bank.Places.{size-is}
 use Rattle.rules.proofs.Refusals.CallOrder.{meets}
 use Rattle.rules.proofs.Refusals.Orders.{bank-order-refused}
 use Rattle.control_set.specs.Plan.{Asked}

@@ -26,7 +26,7 @@ use Rattle.rules.proofs.Bank.FieldWritten.{eqb₄, get-put, get-put-any
 use Rattle.rules.proofs.Lists.Relation.{field-lt}
 
 -- an invariant through a loop
-pub loop-inv :
+loop-inv :
     (n : ℕ) (f : ℕ → Bank → Bank) (P : ℕ → Bank → Type 0) (b : Bank)
     → P 0 b
     → ((j : ℕ) (b′ : Bank) → j < n → P j b′ → P (suc j) (f j b′))

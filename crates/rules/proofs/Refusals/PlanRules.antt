@@ -94,7 +94,7 @@ lacks-app count a = Iff·trans (not-says (isApp count a) (app-says count a)) (λ
     back (inr l) h = omega arith
 
 -- a field to be copied
-is-copied : (t : Bool) → isCopied (cond t copied kept) ≡ t
+pub is-copied : (t : Bool) → isCopied (cond t copied kept) ≡ t
 is-copied true = refl
 is-copied false = refl
 

@@ -1,7 +1,6 @@
 -- `copies` meets its contract.
 use mathlib.Core.Path.{_≡_}
-use mathlib.Core.Bool.{_&&_}
-use Prim.Native.Nat.{_*_, _/_, _%_, _^_, _<_}
+use Prim.Native.Nat.{_*_, _/_, _%_, _^_}
 use Rattle.rules.specs.Bank.{appSelIn}
 use native.Mathlib.Omega.{arith}
 use lib.Bits.{bitAnd, and-mask, mask-lt}

@@ -1,7 +1,6 @@
 -- `lanes_of` meets its contract.
-use mathlib.Core.Path.{_≡_, refl, sym}
+use mathlib.Core.Path.{refl, sym}
 use borrow.Author.Needs.{needs}
-use Rattle.control_set.specs.Lanes.{SpreadsAll}
 use Rattle.control_set.proofs.plan.lanes_of.Statement.{statement}
 use Rattle.control_set.proofs.plan.lanes_of.Tie as tie
 

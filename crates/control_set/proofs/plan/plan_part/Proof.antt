@@ -1,8 +1,9 @@
 -- `plan_part` meets its contract.
-use Prim.Native.Nat.{_-_, _≤_}
+use Prim.Native.Nat.{_-_, _*_, _/_, _^_, _≤_}
 use native.Mathlib.Omega.{arith}
 use borrow.Author.Needs.{needs}
-use mathlib.Core.Path.{_≡_, refl}
+use mathlib.Core.Path.{_≡_}
+use lib.Bits.{and-mask, mask-lt}
 use Rattle.control_set.specs.Plan.{Laid}
 use Rattle.control_set.proofs.Plans.{laid-none, laid-next}
 use Rattle.control_set.proofs.plan.plan_part.Statement.{statement}
@@ -24,7 +25,7 @@ shr-plan : tie.Need-shr-plan Inv-loop μ-loop
 shr-plan c = search needs
 
 cast-plan : tie.Need-cast-plan Inv-loop μ-loop
-cast-plan c = search needs
+cast-plan c = let l = c .before in record { fits = mask-lt (l .before .args .bits / 2 ^ (8 * l .loop .j)) 8 }
 
 add-plan : tie.Need-add-plan Inv-loop μ-loop
 add-plan c = search needs
@@ -42,7 +43,7 @@ loop-again : tie.Need-loop-again Inv-loop μ-loop
 loop-again c =
     let l = c .before in
     let i = l .loop .inv .1 in
-    (omega arith, laid-next _ (omega (arith, i .size, l .before .pre)) refl i)
+    (omega arith, laid-next _ (omega (arith, i .size, l .before .pre)) (and-mask (l .before .args .bits / 2 ^ (8 * l .loop .j)) 8) i)
 
 returns : tie.Need-returns Inv-loop μ-loop
 returns c =
