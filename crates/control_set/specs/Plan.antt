@@ -1,5 +1,5 @@
 -- Apply, entry by entry: which lanes it copies, which hold a value not accepted, the plan of the bits that are copied, and the copy.
-use Rattle.std.specs.Prelude.{◌≡◌, ◌⊎◌, ◌≢◌, Bool, true, ◌&&◌, not, cond, List, ℕ, suc, ◌+◌, ◌-◌, ◌*◌, ◌^◌, ◌≤◌, ◌<◌, length, get_or}
+use Rattle.std.specs.Prelude.{◌≡◌, ◌⊎◌, ◌≢◌, Bool, true, false, ◌&&◌, not, cond, List, ℕ, suc, ◌+◌, ◌-◌, ◌*◌, ◌^◌, ◌≤◌, ◌<◌, length, get_or}
 use Rattle.std.specs.Int.Bits.{bit_and, bit_or}
 use Rattle.std.specs.Int.Signed.{le_z}
 use Rattle.rules.specs.declared.Entry.{Entry}
@@ -14,6 +14,7 @@ use Rattle.rules.specs.Bank.{Bank, app_sel_in}
 use Rattle.descriptor.specs.declared.Range.{Range}
 use Rattle.descriptor.specs.declared.search.Mark.{Mark}
 use Rattle.descriptor.specs.Rows.{classes, shapes}
+use Rattle.descriptor.specs.Find.{named_of}
 use Rattle.descriptor.specs.Marks.{mark_after}
 use Rattle.descriptor.specs.Reading.{read_by}
 use Rattle.control_set.specs.declared.judge.Fields.{Fields}
@@ -58,7 +59,7 @@ pub record Walk (count : ℕ) (rw : List ℕ) (n : ℕ) : Type 0 where
       → e < n
       → let at : Mark = mark_after (mask_bytes count) rw 0 e in
       let next : Mark = mark_after (mask_bytes count) rw 0 (suc e) in
-      read_by classes shapes count rw at.at at.sum ≡ record { mask = (rw_entry count rw e).mask; id = (rw_entry count rw e).id; parts = parts_of (rw_entry count rw e); width = width_of (rw_entry count rw e); next = next.at; end = next.sum }
+      read_by classes shapes count rw at.at at.sum ≡ record { mask = (rw_entry count rw e).mask; named = named_of false (rw_entry count rw e); next = next.at; end = next.sum }
 
 -- 13
 abbrev pub lacks_by : Chosen → Bank → ℕ → Bool

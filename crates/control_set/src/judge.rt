@@ -113,7 +113,7 @@ pub fn refused_lanes(
     count: usize,
     s: &[u8],
     start: usize,
-    id: u8,
+    id: usize,
     f: Fields,
     bank: &[u8],
 ) -> u8

@@ -164,16 +164,16 @@ pub fn plan_all(chosen: Chosen, rw: &[u8], entries: usize, bank: &[u8], plan: &m
     let mut number = 0;
     while number < entries {
         let entry = entry_read(&classes, &shapes, chosen.count, rw, start, offset);
-        let width = entry.width;
-        if 0 < entry.parts {
-            let f = Fields {
-                offset,
-                parts: entry.parts,
-                width,
-            };
+        let named = entry.named;
+        let f = Fields {
+            offset,
+            parts: named.parts,
+            width: named.width,
+        };
+        if 0 < f.parts {
             last = lanes_of(chosen, apps, last, entry.mask, bank, &mut spreads);
-            plan_entry(plan, f, spreads[width]);
-            let bad = refused_lanes(chosen.set, chosen.count, rw, start, entry.id, f, bank);
+            plan_entry(plan, f, spreads[f.width]);
+            let bad = refused_lanes(chosen.set, chosen.count, rw, start, named.id, f, bank);
             refused = refused | (last.lanes & bad);
         }
         start = entry.next;

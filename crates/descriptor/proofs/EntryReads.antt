@@ -10,15 +10,15 @@ use Rattle.rules.specs.declared.Entry.{Entry}
 use Rattle.rules.specs.declared.Loaded.TheVariants.{Accepted as accepted}
 use Rattle.rules.specs.Descriptor.{mask_bytes, entry_at}
 use Rattle.rules.specs.Load.{load_of, rw_entries}
-use Rattle.rules.specs.Place.{nothing, parts_of, width_of}
+use Rattle.rules.specs.Place.{nothing}
 use Rattle.rules.specs.Demands.{Accepted}
 use Rattle.rules.proofs.Load.Walks.{load-accepted}
 use Rattle.descriptor.specs.declared.search.Mark.{Mark}
 use Rattle.descriptor.specs.Rows.{classes, shapes}
+use Rattle.descriptor.specs.Find.{named_of}
 use Rattle.descriptor.specs.Marks.{OnEntry, mark_after}
 use Rattle.descriptor.specs.Reading.{read_of, read_by}
-use Rattle.descriptor.proofs.Shapes.{shape-table}
-use Rattle.descriptor.proofs.TableRows.{shape}
+use Rattle.descriptor.proofs.Shapes.{shape-table, shaped-table}
 use Rattle.descriptor.proofs.Marks.{mark_of, Marked, marked, accepts}
 
 -- where an entry can stand, it is read
@@ -32,10 +32,8 @@ read-on x y count s mark h =
 
 -- by the table's rows
 read-table :
-    (e : Entry)
-    → read_of classes shapes e ≡ record { mask = e.mask; id = e.id; parts = parts_of e; width = width_of e; next = e.start + e.length; end = e.offset + e.memory }
-unfolding parts_of width_of
-read-table e = rw (shape-table e.id, (shape e.id).0, (shape e.id).1) refl
+    (e : Entry) → read_of classes shapes e ≡ record { mask = e.mask; named = named_of false e; next = e.start + e.length; end = e.offset + e.memory }
+read-table e = rw (shape-table e.id, shaped-table false e) refl
 
 -- the RW string, in the numbers that an accepted load answers
 module _ (count : ℕ) (first last : List ℕ) (n k c t : ℕ) (h : load_of count first last ≡ accepted n k c t) where
@@ -71,9 +69,7 @@ module _ (count : ℕ) (first last : List ℕ) (n k c t : ℕ) (h : load_of coun
       → read_by classes shapes count first (mark_after (mask_bytes count) first 0 i).at (mark_after (mask_bytes count) first 0 i).sum
       ≡ record {
         mask = (get_or (rw_entries count first) i nothing).mask;
-        id = (get_or (rw_entries count first) i nothing).id;
-        parts = parts_of (get_or (rw_entries count first) i nothing);
-        width = width_of (get_or (rw_entries count first) i nothing);
+        named = named_of false (get_or (rw_entries count first) i nothing);
         next = (mark_after (mask_bytes count) first 0 (suc i)).at;
         end = (mark_after (mask_bytes count) first 0 (suc i)).sum;
       }
@@ -81,4 +77,4 @@ module _ (count : ℕ) (first last : List ℕ) (n k c t : ℕ) (h : load_of coun
   read-entry i l =
       read-on classes shapes count first (mark i) (mark-on i l)
       ∙ read-table (entry_at (mask_bytes count) first (mark i).at (mark i).sum)
-      ∙ ap (λ (e : Entry). record { mask = e.mask; id = e.id; parts = parts_of e; width = width_of e; next = (mark (suc i)).at; end = (mark (suc i)).sum }) (read-is i l)
+      ∙ ap (λ (e : Entry). record { mask = e.mask; named = named_of false e; next = (mark (suc i)).at; end = (mark (suc i)).sum }) (read-is i l)

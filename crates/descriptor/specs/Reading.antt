@@ -3,7 +3,7 @@ use Rattle.std.specs.Prelude.{Bool, false, ◌&&◌, ◌||◌, cond, List, [], �
 use Rattle.std.specs.Int.Bits.{bit_and}
 use Rattle.rules.specs.declared.Entry.{Entry}
 use Rattle.rules.specs.Descriptor.{mask_bytes, entry_at}
-use Rattle.rules.specs.Place.{width_of}
+use Rattle.rules.specs.Place.{nothing, width_of}
 use Rattle.rules.specs.Parameter.{Values, numbers, if_in_mask, min_to_max, row_of}
 use Rattle.descriptor.specs.declared.Named.{Named}
 use Rattle.descriptor.specs.declared.Read.{Read}
@@ -37,12 +37,9 @@ shaped l f =
 -- what apply needs of an entry, and where the next one begins, in the string and in a set
 abbrev pub read_of : List ℕ → List (List ℕ) → Entry → Read
 read_of classes shapes e =
-    let l : List ℕ = shape_by classes shapes e.id in
     record {
       mask = e.mask;
-      id = e.id;
-      parts = get_or l 0 0;
-      width = get_or l 1 0;
+      named = shaped (shape_by classes shapes e.id) (named_of false e);
       next = e.start + e.length;
       end = e.offset + e.memory;
     }
@@ -57,7 +54,7 @@ unfoldable pub read_by : List ℕ → List (List ℕ) → ℕ → List ℕ → �
 read_by classes shapes count s start offset =
     cond (can_stand (mask_bytes count) s start offset)
     (read_of classes shapes (entry_at (mask_bytes count) s start offset))
-    (record { mask = 0; id = 0; parts = 0; width = 0; next = start; end = offset })
+    (record { mask = 0; named = named_of false nothing; next = start; end = offset })
 
 -- whether fields have 2 or 4 bits a lane
 abbrev pub has_patterns : ℕ → Bool

@@ -275,14 +275,12 @@ pub fn find(
     }
 }
 
-// What apply needs of an RW entry: its application mask, its ID, and its fields' parts and bits a lane; and where it ends, which is where
-// the next one begins, in the string and in a set.
+// What apply needs of an RW entry: its application mask, and what a call needs of it; and where it ends, which is where the next one
+// begins, in the string and in a set.
 #[derive(Clone, Copy)]
 pub struct Read {
     pub mask: usize,
-    pub id: u8,
-    pub parts: usize,
-    pub width: usize,
+    pub named: Named,
     pub next: usize,
     pub end: usize,
 }
@@ -315,9 +313,19 @@ pub fn entry_read(
     }
     Read {
         mask: 0,
-        id: 0,
-        parts: 0,
-        width: 0,
+        named: Named {
+            ro: false,
+            id: 0,
+            offset: 0,
+            parts: 0,
+            width: 0,
+            signed: false,
+            low: 0,
+            high: 0,
+            coded: false,
+            codes: 0,
+            step: 0,
+        },
         next: start,
         end: offset,
     }
@@ -334,7 +342,7 @@ pub fn patterns_read(count: usize, s: &[u8], start: usize) -> usize
 }
 
 // Whether an entry's Min and Max say what its fields accept.
-pub fn has_range(id: u8) -> bool
+pub fn has_range(id: usize) -> bool
     ensures { result ≡ is_limited (row_of id).values }
 {
     (id == 0x09) | (id == 0x0A) | (id == 0x0D)

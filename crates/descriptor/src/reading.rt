@@ -142,13 +142,12 @@ pub fn read_at(classes: &[u8; 19], shapes: &[[u8; 2]; 11], a: usize, s: &[u8], m
     ensures { result ≡ read_of classes.now shapes.now (entry_at a s.now mark.at mark.sum) }
 {
     let at = mark.at;
-    let shape = shape_in(classes, shapes, s[at]);
+    let id = s[at];
+    let named = named_by(shape_in(classes, shapes, id), id, false, a, s, at, mark.sum);
     let after = past(a, s, mark);
     Read {
         mask: mask_at(a, s, at + 2),
-        id: s[at],
-        parts: shape[PARTS] as usize,
-        width: shape[WIDTH] as usize,
+        named,
         next: after.at,
         end: after.sum,
     }

@@ -1,36 +1,38 @@
 -- `plan_all` meets its contract.
-use Rattle.std.proofs.Common.{◌≡◌, ℕ, suc, ◌≤◌, ◌<◌, refl, ap, ◌∙◌, add-one, arith}
+use Rattle.std.proofs.Common.{◌≡◌, false, ℕ, suc, ◌≤◌, ◌<◌, refl, sym, ap, ◌∙◌, add-one, arith}
 use Rattle.rules.specs.declared.Entry.{Entry}
 use Rattle.rules.specs.Descriptor.{mask_bytes}
-use Rattle.rules.specs.Place.{Width, parts_of, width_of}
+use Rattle.rules.specs.Place.{Width}
 use Rattle.descriptor.specs.declared.Read.{Read}
+use Rattle.descriptor.specs.Find.{named_of}
 use Rattle.descriptor.specs.Marks.{mark_after}
 use Rattle.control_set.specs.declared.judge.Fields.{Fields}
 use Rattle.control_set.specs.Plan.{rw_entry, fields_of}
 use Rattle.control_set.proofs.LaneMasks.{width-le}
 use Rattle.control_set.proofs.Plans.{no-bits, planned-start, upto-none, upto-skip, upto-next}
 use Rattle.control_set.proofs.plan.plan_all.Goals as goal
-use Rattle.control_set.proofs.plan.plan_all.Goals.{After-entry_read-entry, then-entry-gt0, else-entry-gt0}
+use Rattle.control_set.proofs.plan.plan_all.Goals.{After-entry_read-entry, then-f-gt0, else-f-gt0}
 
 -- the next entry is read
 known : (c : After-entry_read-entry) →
     let count = c.args.chosen.count in
     let e = rw_entry count c.args.rw.now c.loop-number.number in
     let next = mark_after (mask_bytes count) c.args.rw.now 0 (suc c.loop-number.number) in
-    ◌≡◌ {A = Read} c.entry_read-entry.result (record { mask = e.mask; id = e.id; parts = parts_of e; width = width_of e; next = next.at; end = next.sum })
+    ◌≡◌ {A = Read} c.entry_read-entry.result (record { mask = e.mask; named = named_of false e; next = next.at; end = next.sum })
 known c =
     let i = c.loop-number.invariant in
     c.entry_read-entry.ensures ∙ rw (i.1, i.2) (c.requires.walk.0.read _ c.loop-number-test.true)
 
 -- and its fields
 fields : (c : After-entry_read-entry) →
-    let r = c.entry_read-entry.result in
+    let r = c.entry_read-entry.result.named in
     ◌≡◌ {A = Fields} (record { offset = c.loop-number.offset; parts = r.parts; width = r.width }) (fields_of (rw_entry c.args.chosen.count c.args.rw.now c.loop-number.number))
+unfolding named_of
 fields c =
     let o = c.loop-number.invariant.2 ∙ ap (λ (x : Entry). x.offset) (c.requires.walk.0.is _ c.loop-number-test.true) in
-    rw (o, ap (λ (x : Read). x.parts) (known c), ap (λ (x : Read). x.width) (known c)) refl
+    rw (o, ap (λ (x : Read). x.named.parts) (known c), ap (λ (x : Read). x.named.width) (known c)) refl
 
-whole : (c : After-entry_read-entry) → 0 < c.entry_read-entry.result.parts → Width c.entry_read-entry.result.width
+whole : (c : After-entry_read-entry) → 0 < c.entry_read-entry.result.named.parts → Width c.entry_read-entry.result.named.width
 whole c h =
     let f = fields c in
     let w = (c.requires.walk.0.arranged.spread _ c.loop-number-test.true).whole in
@@ -43,14 +45,14 @@ pub loop-number-init : goal.loop-number-init
 unfolding mark_after
 loop-number-init c = (omega arith, refl, refl, upto-none _ _ _ _ _ refl (no-bits 9) c.requires.planned)
 
-pub offset_bounds-spreads-width : goal.offset_bounds-spreads-width
-offset_bounds-spreads-width c =
-    let w = width-le _ (whole (goal.at.offset_bounds-spreads-width c).After-entry_read-entry c.if-entry-gt0.true) in
+pub offset_bounds-spreads-f : goal.offset_bounds-spreads-f
+offset_bounds-spreads-f c =
+    let w = width-le _ (whole (goal.at.offset_bounds-spreads-f c).After-entry_read-entry c.if-f-gt0.true) in
     record { fits = omega (arith, w) }
 
-pub bounds-spreads-width : goal.bounds-spreads-width
-bounds-spreads-width c =
-    omega (arith, width-le _ (whole (goal.at.bounds-spreads-width c).After-entry_read-entry c.if-entry-gt0.true))
+pub bounds-spreads-f : goal.bounds-spreads-f
+bounds-spreads-f c =
+    omega (arith, width-le _ (whole (goal.at.bounds-spreads-f c).After-entry_read-entry c.if-f-gt0.true))
 
 pub plan_entry-requires : goal.plan_entry-requires
 plan_entry-requires c =
@@ -59,7 +61,27 @@ plan_entry-requires c =
     let p = c.loop-number.invariant.3.planned in
     let k = fields r in
     let h = c.loop-number-test.true in
-    (c.if-entry-gt0.true, rw k (a.spread _ h), (c.lanes_of-last.ensures.cached.spread.by _ (whole r c.if-entry-gt0.true)).room, p.size, rw k (planned-start a h p _))
+    (c.if-f-gt0.true, rw k (a.spread _ h), (c.lanes_of-last.ensures.cached.spread.by _ (whole r c.if-f-gt0.true)).room, p.size, rw k (planned-start a h p _))
+
+pub refused_lanes-bad-requires-clause-set_bound : goal.refused_lanes-bad-requires-clause-set_bound
+refused_lanes-bad-requires-clause-set_bound c =
+    let r = (goal.at.refused_lanes-bad-requires-clause-set_bound c).After-entry_read-entry in
+    let (walk, asked, _) = c.requires.walk in
+    (asked.staged, asked.size, rw (fields r) (walk.arranged.spread _ c.loop-number-test.true), c.if-f-gt0.true)
+
+pub refused_lanes-bad-requires-clause-entry : goal.refused_lanes-bad-requires-clause-entry
+unfolding named_of
+refused_lanes-bad-requires-clause-entry c =
+    let r = (goal.at.refused_lanes-bad-requires-clause-entry c).After-entry_read-entry in
+    let walk = c.requires.walk.0 in
+    let h = c.loop-number-test.true in
+    let i = c.loop-number.invariant in
+    let is = rw (← i.1, ← i.2) at (walk.is _ h) in
+    record {
+      low = rw i.1 (walk.low _ h);
+      id = ap (λ (x : Entry). x.id) is ∙ sym (ap (λ (x : Read). x.named.id) (known r));
+      fields = ap fields_of is ∙ sym (fields r);
+    }
 
 pub loop-number-preserved : goal.loop-number-preserved
 loop-number-preserved c =
@@ -74,12 +96,12 @@ loop-number-preserved c =
       omega arith,
       rw (add-one c.loop-number.number) (ap (λ (x : Read). x.next) (known r)),
       rw (add-one c.loop-number.number) (ap (λ (x : Read). x.end) (known r)),
-      elim c.if-entry-gt0.branch [
-        | then-entry-gt0 w ↦
+      elim c.if-f-gt0.branch [
+        | then-f-gt0 w ↦
             rw (w.plan-is, w.spreads-is, w.last-is, w.refused-is)
             (upto-next a h u w.refused_lanes-bad.result (rw (ap (λ (x : Read). x.mask) (known r)) at w.lanes_of-last.ensures.lanes) w.lanes_of-last.ensures.cached
             (rw (i.1, i.2, c.requires.walk.0.is _ h) at w.refused_lanes-bad.ensures)
-            (rw width at (whole r w.if-entry-gt0.true)) (rw (k, parts, width) at w.plan_entry.ensures))
-        | else-entry-gt0 w ↦ rw (w.plan-is, w.spreads-is, w.last-is, w.refused-is) (upto-skip a h u (none (rw parts at w.if-entry-gt0.false)))
+            (rw width at (whole r w.if-f-gt0.true)) (rw (k, parts, width) at w.plan_entry.ensures))
+        | else-f-gt0 w ↦ rw (w.plan-is, w.spreads-is, w.last-is, w.refused-is) (upto-skip a h u (none (rw parts at w.if-f-gt0.false)))
       ],
     )
