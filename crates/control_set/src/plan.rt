@@ -165,14 +165,15 @@ pub fn plan_all(chosen: Chosen, rw: &[u8], entries: usize, bank: &[u8], plan: &m
     while number < entries {
         let entry = entry_read(&classes, &shapes, chosen.count, rw, start, offset);
         let named = entry.named;
-        let f = Fields {
-            offset,
-            parts: named.parts,
-            width: named.width,
-        };
-        if 0 < f.parts {
+        let width = named.width;
+        if 0 < named.parts {
+            let f = Fields {
+                offset,
+                parts: named.parts,
+                width,
+            };
             last = lanes_of(chosen, apps, last, entry.mask, bank, &mut spreads);
-            plan_entry(plan, f, spreads[f.width]);
+            plan_entry(plan, f, spreads[width]);
             let bad = refused_lanes(chosen.set, chosen.count, rw, start, named.id, f, bank);
             refused = refused | (last.lanes & bad);
         }

@@ -11,7 +11,7 @@ use Rattle.control_set.specs.Plan.{rw_entry, fields_of}
 use Rattle.control_set.proofs.LaneMasks.{width-le}
 use Rattle.control_set.proofs.Plans.{no-bits, planned-start, upto-none, upto-skip, upto-next}
 use Rattle.control_set.proofs.plan.plan_all.Goals as goal
-use Rattle.control_set.proofs.plan.plan_all.Goals.{After-entry_read-entry, then-f-gt0, else-f-gt0}
+use Rattle.control_set.proofs.plan.plan_all.Goals.{After-entry_read-entry, then-named-gt0, else-named-gt0}
 
 -- the next entry is read
 known : (c : After-entry_read-entry) →
@@ -45,14 +45,14 @@ pub loop-number-init : goal.loop-number-init
 unfolding mark_after
 loop-number-init c = (omega arith, refl, refl, upto-none _ _ _ _ _ refl (no-bits 9) c.requires.planned)
 
-pub offset_bounds-spreads-f : goal.offset_bounds-spreads-f
-offset_bounds-spreads-f c =
-    let w = width-le _ (whole (goal.at.offset_bounds-spreads-f c).After-entry_read-entry c.if-f-gt0.true) in
+pub offset_bounds-spreads-width : goal.offset_bounds-spreads-width
+offset_bounds-spreads-width c =
+    let w = width-le _ (whole (goal.at.offset_bounds-spreads-width c).After-entry_read-entry c.if-named-gt0.true) in
     record { fits = omega (arith, w) }
 
-pub bounds-spreads-f : goal.bounds-spreads-f
-bounds-spreads-f c =
-    omega (arith, width-le _ (whole (goal.at.bounds-spreads-f c).After-entry_read-entry c.if-f-gt0.true))
+pub bounds-spreads-width : goal.bounds-spreads-width
+bounds-spreads-width c =
+    omega (arith, width-le _ (whole (goal.at.bounds-spreads-width c).After-entry_read-entry c.if-named-gt0.true))
 
 pub plan_entry-requires : goal.plan_entry-requires
 plan_entry-requires c =
@@ -61,13 +61,13 @@ plan_entry-requires c =
     let p = c.loop-number.invariant.3.planned in
     let k = fields r in
     let h = c.loop-number-test.true in
-    (c.if-f-gt0.true, rw k (a.spread _ h), (c.lanes_of-last.ensures.cached.spread.by _ (whole r c.if-f-gt0.true)).room, p.size, rw k (planned-start a h p _))
+    (c.if-named-gt0.true, rw k (a.spread _ h), (c.lanes_of-last.ensures.cached.spread.by _ (whole r c.if-named-gt0.true)).room, p.size, rw k (planned-start a h p _))
 
 pub refused_lanes-bad-requires-clause-set_bound : goal.refused_lanes-bad-requires-clause-set_bound
 refused_lanes-bad-requires-clause-set_bound c =
     let r = (goal.at.refused_lanes-bad-requires-clause-set_bound c).After-entry_read-entry in
     let (walk, asked, _) = c.requires.walk in
-    (asked.staged, asked.size, rw (fields r) (walk.arranged.spread _ c.loop-number-test.true), c.if-f-gt0.true)
+    (asked.staged, asked.size, rw (fields r) (walk.arranged.spread _ c.loop-number-test.true), c.if-named-gt0.true)
 
 pub refused_lanes-bad-requires-clause-entry : goal.refused_lanes-bad-requires-clause-entry
 unfolding named_of
@@ -96,12 +96,12 @@ loop-number-preserved c =
       omega arith,
       rw (add-one c.loop-number.number) (ap (λ (x : Read). x.next) (known r)),
       rw (add-one c.loop-number.number) (ap (λ (x : Read). x.end) (known r)),
-      elim c.if-f-gt0.branch [
-        | then-f-gt0 w ↦
+      elim c.if-named-gt0.branch [
+        | then-named-gt0 w ↦
             rw (w.plan-is, w.spreads-is, w.last-is, w.refused-is)
             (upto-next a h u w.refused_lanes-bad.result (rw (ap (λ (x : Read). x.mask) (known r)) at w.lanes_of-last.ensures.lanes) w.lanes_of-last.ensures.cached
             (rw (i.1, i.2, c.requires.walk.0.is _ h) at w.refused_lanes-bad.ensures)
-            (rw width at (whole r w.if-f-gt0.true)) (rw (k, parts, width) at w.plan_entry.ensures))
-        | else-f-gt0 w ↦ rw (w.plan-is, w.spreads-is, w.last-is, w.refused-is) (upto-skip a h u (none (rw parts at w.if-f-gt0.false)))
+            (rw width at (whole r w.if-named-gt0.true)) (rw (k, parts, width) at w.plan_entry.ensures))
+        | else-named-gt0 w ↦ rw (w.plan-is, w.spreads-is, w.last-is, w.refused-is) (upto-skip a h u (none (rw parts at w.if-named-gt0.false)))
       ],
     )
