@@ -1,16 +1,37 @@
 // The map program: it reads the count and both strings from standard input, and prints their map, or their refusal.
 #![tactic(auto)]
 
+ghost use Rattle.std.specs.Prelude.{◌≤◌, IfOk, length};
+
 use descriptor::map_text;
 use std::io;
-use std::io::{Read, Write};
+use std::io::{ErrorKind, Read, Write};
+
+// Reads until the input ends or the buffer is full, and gives how many bytes it read.
+fn read_full<R: Read>(reader: &mut R, input: &mut [u8]) -> io::Result<usize>
+    ensures { IfOk result (λ n. n ≤ length input.new) }
+{
+    let mut n = 0;
+    for _ in 0..u64::MAX {
+        match reader.read(&mut input[n..]) {
+            Ok(0) => return Ok(n),
+            Ok(read) => n += read,
+            Err(e) => {
+                if e.kind() != ErrorKind::Interrupted {
+                    return Err(e);
+                }
+            }
+        }
+    }
+    Ok(n)
+}
 
 fn main(rt: HostRuntime) -> io::Result<()> {
     // The longest input that loads has 3 + 120 + 120 = 243 bytes. One of 244 or more prints `refused 9`, and so do its first 244:
     // either the sizes do not add up, or a string is over 120. So 244 bytes decide what is printed (`map-first`, proved in rules).
-    let mut input = Vec::new(rt.alloc());
-    rt.reader().take(244).read_to_end(&mut input)?;
+    let mut input = [0u8; 244];
+    let n = read_full(&mut rt.reader(), &mut input)?;
     let mut text = [0u8; 1024];
-    let size = map_text(&input, &mut text);
+    let size = map_text(&input[..n], &mut text);
     io::writer(&rt).write_all(&text[..size])
 }

@@ -59,7 +59,7 @@ fn take_at(count: usize, s: &[u8], at: usize) -> Taking
 }
 
 // A lent string and the position in it.
-#[derive(Clone, Copy)]
+#[derive(Drop)]
 pub struct Reader<'a> {
     pub src: &'a [u8],
     pub at: usize,

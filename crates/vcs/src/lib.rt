@@ -13,9 +13,11 @@ ghost use Rattle.vcs.specs.Flat.{flat_loaded, state_of, flat_passed, flat_entry,
 mod flat; // flat answers
 
 use crate::flat::{
+    call_of, flat_answer, flat_loaded, flat_owned, flat_state, no_state, reason_of, state_of,
+};
+pub use crate::flat::{
     FlatAnswer, FlatCall, FlatEntry, FlatLoaded, FlatOwned, FlatPassed, FlatPlaced, FlatState,
-    FlatTaken, call_of, flat_answer, flat_loaded, flat_owned, flat_state, no_state, reason_of,
-    state_of,
+    FlatTaken, Reason,
 };
 use control_set::{
     apply, byte_read, byte_write, fresh, perform, publish, read, select, weight, write,
