@@ -5,23 +5,19 @@ ghost use Rattle.std.specs.Prelude.{◌≤◌, IfOk, length};
 
 use descriptor::map_text;
 use std::io;
-use std::io::{ErrorKind, Read, Write};
+use std::io::{Read, Write};
 
 // Reads until the input ends or the buffer is full, and gives how many bytes it read.
 fn read_full<R: Read>(reader: &mut R, input: &mut [u8]) -> io::Result<usize>
     ensures { IfOk result (λ n. n ≤ length input.new) }
 {
     let mut n = 0;
-    for _ in 0..u64::MAX {
-        match reader.read(&mut input[n..]) {
-            Ok(0) => return Ok(n),
-            Ok(read) => n += read,
-            Err(e) => {
-                if e.kind() != ErrorKind::Interrupted {
-                    return Err(e);
-                }
-            }
+    while n < input.len() {
+        let read = reader.read(&mut input[n..])?;
+        if read == 0 {
+            break;
         }
+        n += read;
     }
     Ok(n)
 }

@@ -1,4 +1,4 @@
-// The C interface (include/vcs.h): thin exports of the calls, with flat answers.
+// The calls with flat answers, for C: `vcs_c` exports each (include/vcs.h).
 #![tactic(auto)]
 
 ghost use Rattle.std.specs.Prelude.{◌≡◌};
@@ -28,16 +28,14 @@ use reader::take_from;
 use rules::{Call, Passed, Placed, Taken};
 
 // The load: both entry counts, staged and active length.
-#[unsafe(no_mangle)]
-pub extern "C" fn vcs_load(count: usize, rw: &[u8], ro: &[u8]) -> FlatLoaded
+pub fn vcs_load(count: usize, rw: &[u8], ro: &[u8]) -> FlatLoaded
     ensures { result ≡ flat_loaded (load_of count rw.now ro.now) }
 {
     flat_loaded(load(count, rw, ro))
 }
 
 // One entry of a load that is made entry by entry: its length and the state after it, or the end (1).
-#[unsafe(no_mangle)]
-pub extern "C" fn vcs_pass(count: usize, rw: &[u8], ro: &[u8], state: FlatState) -> FlatPassed
+pub fn vcs_pass(count: usize, rw: &[u8], ro: &[u8], state: FlatState) -> FlatPassed
     ensures { result ≡ flat_passed (pass_of count (state_of state) rw.now ro.now) }
 {
     let passed = pass(count, rw, ro, state_of(state));
@@ -70,16 +68,14 @@ pub extern "C" fn vcs_pass(count: usize, rw: &[u8], ro: &[u8], state: FlatState)
 }
 
 // The load taken up again after an entry.
-#[unsafe(no_mangle)]
-pub extern "C" fn vcs_resume(count: usize, rw: &[u8], ro: &[u8], state: FlatState) -> FlatLoaded
+pub fn vcs_resume(count: usize, rw: &[u8], ro: &[u8], state: FlatState) -> FlatLoaded
     ensures { result ≡ flat_loaded (resume_of count (state_of state) rw.now ro.now) }
 {
     flat_loaded(resume(count, rw, ro, state_of(state)))
 }
 
 // The entry call: which string (0 RW, 1 RO), start and length there, and the offset in a set.
-#[unsafe(no_mangle)]
-pub extern "C" fn vcs_entry(count: usize, rw: &[u8], ro: &[u8], entry: usize) -> FlatEntry
+pub fn vcs_entry(count: usize, rw: &[u8], ro: &[u8], entry: usize) -> FlatEntry
     ensures { result ≡ flat_entry (located_of count rw.now ro.now entry) }
 {
     let found = locate(count, rw, ro, entry);
@@ -118,8 +114,7 @@ pub extern "C" fn vcs_entry(count: usize, rw: &[u8], ro: &[u8], entry: usize) ->
 }
 
 // Place: a field's offset in a set, its page and byte, and its lowest bit there.
-#[unsafe(no_mangle)]
-pub extern "C" fn vcs_place(
+pub fn vcs_place(
     count: usize,
     rw: &[u8],
     ro: &[u8],
@@ -160,8 +155,7 @@ pub extern "C" fn vcs_place(
 }
 
 // Owner: the field that a bit of a set belongs to, or gap (1), and the number of entries looked at.
-#[unsafe(no_mangle)]
-pub extern "C" fn vcs_owner(
+pub fn vcs_owner(
     count: usize,
     rw: &[u8],
     ro: &[u8],
@@ -175,8 +169,7 @@ pub extern "C" fn vcs_owner(
 }
 
 // Owner by an address: the same of a bit of a byte of a page.
-#[unsafe(no_mangle)]
-pub extern "C" fn vcs_owner_at(
+pub fn vcs_owner_at(
     count: usize,
     rw: &[u8],
     ro: &[u8],
@@ -191,8 +184,7 @@ pub extern "C" fn vcs_owner_at(
 }
 
 // Fresh: the bank cleared, and both entry counts, staged and active length.
-#[unsafe(no_mangle)]
-pub extern "C" fn vcs_fresh(count: usize, rw: &[u8], ro: &[u8], bank: &mut [u8]) -> FlatLoaded
+pub fn vcs_fresh(count: usize, rw: &[u8], ro: &[u8], bank: &mut [u8]) -> FlatLoaded
     ensures answer { result ≡ flat_loaded (fresh_call count rw.now ro.now bank.old).0 }
     ensures after { bank.new ≡ (fresh_call count rw.now ro.now bank.old).1 }
 {
@@ -200,8 +192,7 @@ pub extern "C" fn vcs_fresh(count: usize, rw: &[u8], ro: &[u8], bank: &mut [u8])
 }
 
 // Select: the AppSel of a lane of a staged set is stored.
-#[unsafe(no_mangle)]
-pub extern "C" fn vcs_select(
+pub fn vcs_select(
     count: usize,
     rw: &[u8],
     ro: &[u8],
@@ -217,8 +208,7 @@ pub extern "C" fn vcs_select(
 }
 
 // Write: an accepted value is stored in a field of a staged set.
-#[unsafe(no_mangle)]
-pub extern "C" fn vcs_write(
+pub fn vcs_write(
     count: usize,
     rw: &[u8],
     ro: &[u8],
@@ -236,8 +226,7 @@ pub extern "C" fn vcs_write(
 }
 
 // Read: the number of a field.
-#[unsafe(no_mangle)]
-pub extern "C" fn vcs_read(
+pub fn vcs_read(
     count: usize,
     rw: &[u8],
     ro: &[u8],
@@ -253,8 +242,7 @@ pub extern "C" fn vcs_read(
 }
 
 // Byte write: each field in a byte of a staged set takes its own bits, and its gaps become 0.
-#[unsafe(no_mangle)]
-pub extern "C" fn vcs_byte_write(
+pub fn vcs_byte_write(
     count: usize,
     rw: &[u8],
     ro: &[u8],
@@ -270,8 +258,7 @@ pub extern "C" fn vcs_byte_write(
 }
 
 // Byte read: a byte of a set, its gaps as 0.
-#[unsafe(no_mangle)]
-pub extern "C" fn vcs_byte_read(
+pub fn vcs_byte_read(
     count: usize,
     rw: &[u8],
     ro: &[u8],
@@ -285,8 +272,7 @@ pub extern "C" fn vcs_byte_read(
 }
 
 // Publish: an accepted value is stored in a field of an RO entry.
-#[unsafe(no_mangle)]
-pub extern "C" fn vcs_publish(
+pub fn vcs_publish(
     count: usize,
     rw: &[u8],
     ro: &[u8],
@@ -303,8 +289,7 @@ pub extern "C" fn vcs_publish(
 }
 
 // Apply: the fields of the chosen lanes are copied from a staged set to the active set, all or nothing.
-#[unsafe(no_mangle)]
-pub extern "C" fn vcs_apply(
+pub fn vcs_apply(
     count: usize,
     rw: &[u8],
     ro: &[u8],
@@ -319,8 +304,7 @@ pub extern "C" fn vcs_apply(
 }
 
 // Perform: any of the seven calls, by its kind.
-#[unsafe(no_mangle)]
-pub extern "C" fn vcs_perform(
+pub fn vcs_perform(
     count: usize,
     rw: &[u8],
     ro: &[u8],
@@ -334,8 +318,7 @@ pub extern "C" fn vcs_perform(
 }
 
 // Weight: the active number of a lane of a 12h entry, in thousandths.
-#[unsafe(no_mangle)]
-pub extern "C" fn vcs_weight(
+pub fn vcs_weight(
     count: usize,
     rw: &[u8],
     ro: &[u8],
@@ -349,8 +332,7 @@ pub extern "C" fn vcs_weight(
 }
 
 // What a reader takes at a position: the next entry's start and length, or the end (1), and the position after it.
-#[unsafe(no_mangle)]
-pub extern "C" fn vcs_take(count: usize, string: &[u8], position: usize) -> FlatTaken
+pub fn vcs_take(count: usize, string: &[u8], position: usize) -> FlatTaken
     ensures { result ≡ flat_taken (take_of count string.now position) (moved_to (take_of count string.now position) position) }
 {
     let x = take_from(count, string, position);
