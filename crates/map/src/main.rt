@@ -1,7 +1,8 @@
 // The map program: it reads the count and both strings from standard input, and prints their map, or their refusal.
 #![tactic(auto)]
 
-ghost use Rattle.std.specs.Prelude.{◌≤◌, IfOk, length};
+ghost use Rattle.std.specs.Prelude.{◌≤◌, ◌<◌, IfOk, length, take};
+ghost use Rattle.std.specs.Io.KnownBytes.{Consumes, IsAtEnd};
 
 use descriptor::map_text;
 use std::io;
@@ -9,13 +10,15 @@ use std::io::{Read, Write};
 
 // Reads until the input ends or the buffer is full, and gives how many bytes it read.
 fn read_full<R: Read>(reader: &mut R, input: &mut [u8]) -> io::Result<usize>
-    ensures { IfOk result (λ n. n ≤ length input.new) }
+    ensures bound { IfOk result (λ n. n ≤ length input.new) }
+    ensures bytes { IfOk result (λ n. Consumes (R.remaining reader.old) (R.remaining reader.new) (take n input.new)) }
+    ensures end { IfOk result (λ n. n < length input.new → IsAtEnd (R.remaining reader.new)) }
 {
     let mut n = 0;
     while n < input.len() {
         let read = reader.read(&mut input[n..])?;
         if read == 0 {
-            break;
+            return Ok(n);
         }
         n += read;
     }
