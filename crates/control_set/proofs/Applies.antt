@@ -1,4 +1,5 @@
 -- Apply: what its pass finds is what the rules say of the map, the bank that it leaves is theirs, and the ways out of the call.
+use Rattle.std.specs.Prelude.{Err}
 use mathlib.Core.Path.{◌≡◌, refl, sym, ap, ap₂, ◌∙◌}
 use mathlib.Core.Logic.{◌⊎◌, inl, inr, ◌≢◌}
 use mathlib.Core.Bool.{Bool, true, false, ◌&&◌, not, cond}
@@ -9,10 +10,9 @@ use native.Mathlib.Decide.{dec_lt}
 use lib.ListN.{length, get_or}
 use lib.Dec.{eqb, leb}
 use borrow.Author.Tests.{ne_eqb}
+use Rattle.rules.specs.Words.{accepted, says_yes}
 use Rattle.rules.specs.declared.Entry.{Entry}
 use Rattle.rules.specs.declared.Call.{Call}
-use Rattle.rules.specs.declared.Loaded.TheVariants.{Accepted as accepted}
-use Rattle.rules.specs.declared.Answer.TheVariants.{Yes as says_yes, Refused as refused}
 use Rattle.rules.specs.declared.Refusal.TheVariants.{Plain as plain, AtLane as at_lane}
 use Rattle.rules.specs.Numbers.{cut, any, lowest}
 use Rattle.rules.specs.Descriptor.{mask_bytes, byte_at, high_first, has_app}
@@ -265,12 +265,12 @@ module _ (count : ℕ) (first last : List ℕ) (n k c t : ℕ) (h : load_of coun
     pub apply-asked : s < 2 → Asked (asked s lanes b count) b
     apply-asked l = record { count = count-top count first last h; staged = l; size = size }
 
-    pub apply-10 : is_set s ≡ false → bank_call count first last (Call.Apply s lanes) b ≡ (refused (plain 10), b)
+    pub apply-10 : is_set s ≡ false → bank_call count first last (Call.Apply s lanes) b ≡ (Err (plain 10), b)
     unfolding exists
     apply-10 h = call-10 count first last call b o h
 
     module _ (is : is_set s ≡ true) where
-      pub apply-11 : eqb s 2 ≡ true → bank_call count first last (Call.Apply s lanes) b ≡ (refused (plain 11), b)
+      pub apply-11 : eqb s 2 ≡ true → bank_call count first last (Call.Apply s lanes) b ≡ (Err (plain 11), b)
       unfolding exists misdirected
       apply-11 l = call-11 count first last call b o is l
 
@@ -282,7 +282,7 @@ module _ (count : ℕ) (first last : List ℕ) (n k c t : ℕ) (h : load_of coun
         lacks : Lanes 9 (bank_lacks_app (map_of count first last) b s lanes) none
         lacks j a u = r j a u ∙ lacks-is s lanes b j
 
-        pub apply-13 : i ≢ 0 → bank_call count first last (Call.Apply s lanes) b ≡ (refused (at_lane 13 i), b)
+        pub apply-13 : i ≢ 0 → bank_call count first last (Call.Apply s lanes) b ≡ (Err (at_lane 13 i), b)
         unfolding bank_plan
         apply-13 ne = call-refused count first last call b (at_lane 13 i) (order ∙ rw (lowest-refuses 13 _ none lacks q ne) refl)
 
@@ -293,7 +293,7 @@ module _ (count : ℕ) (first last : List ℕ) (n k c t : ℕ) (h : load_of coun
           holds : Lanes 9 (bank_holds_bad (map_of count first last) b s lanes) bad
           holds e a u = w e a u ∙ among-is s lanes b e
 
-          pub apply-14 : j ≢ 0 → bank_call count first last (Call.Apply s lanes) b ≡ (refused (at_lane 14 j), b)
+          pub apply-14 : j ≢ 0 → bank_call count first last (Call.Apply s lanes) b ≡ (Err (at_lane 14 j), b)
           unfolding bank_plan
           apply-14 ne =
               call-refused count first last call b (at_lane 14 j) (order ∙ rw (lowest-passes 13 _ none lacks q z, lowest-refuses 14 _ bad holds y ne) refl)

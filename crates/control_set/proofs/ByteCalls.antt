@@ -1,4 +1,5 @@
 -- A call that names a byte: its gate, from the entry that covers the byte.
+use Rattle.std.specs.Prelude.{Err}
 use mathlib.Core.Path.{◌≡◌, refl, ◌∙◌}
 use mathlib.Core.Logic.{◌≢◌}
 use mathlib.Core.Bool.{Bool, true, false, ◌&&◌, not, cond}
@@ -10,10 +11,10 @@ use lib.IntN.{pos}
 use lib.ListN.{length, get_or, set}
 use lib.Dec.{ltb, ltb→lt}
 use borrow.Author.Tests.{ltb-true, ltb-false, lt-ltb, le-ltb, eq-eqb, ne_eqb}
+use Rattle.rules.specs.Words.{number, says_yes}
 use Rattle.rules.specs.declared.Refusal.{Refusal}
 use Rattle.rules.specs.declared.Refusal.TheVariants.{Plain as plain}
 use Rattle.rules.specs.declared.Call.{Call}
-use Rattle.rules.specs.declared.Answer.TheVariants.{Yes as says_yes, Number as number, Refused as refused}
 use Rattle.rules.specs.Load.{Map, sized, map_of, read_of}
 use Rattle.rules.specs.Place.{entry, parts_of, width_of, is_set, is_staged, held_by, length_of}
 use Rattle.rules.specs.Layout.{bank_size, HasBytes, set_start}
@@ -31,13 +32,10 @@ use Rattle.rules.proofs.Place.PlaceCalls.{space-in-set, space-held}
 use Rattle.rules.proofs.Refusals.CallOrder.{judge-10, call-refused}
 use Rattle.rules.proofs.Refusals.Orders.{bank-order-refused, bank-order-accepted}
 use Rattle.rules.proofs.Bank.Places.{named-has-bytes}
-use Rattle.descriptor.specs.declared.Covered.TheVariants.{Nothing as no_entry, Refused as not_covered}
-use Rattle.descriptor.specs.Cover.{cover_of}
+use Rattle.descriptor.specs.Cover.{none_covers, cover_of}
 use Rattle.descriptor.proofs.TableRows.{parts-few, width-narrow}
 use Rattle.descriptor.proofs.Covers.{Covering, cover-refused, cover-none}
-use Rattle.control_set.specs.Gate.{Opened, Reached, ByteGated, byte_refused}
-use Rattle.control_set.specs.declared.gate.Byte.{Byte}
-use Rattle.control_set.specs.declared.gate.Byte.TheVariants.{Refused as stops}
+use Rattle.control_set.specs.Gate.{Opened, Reached, ByteGated}
 use Rattle.control_set.proofs.Outcomes.{call-11, call-done}
 
 -- the bits of fields in a byte of an entry's space
@@ -61,11 +59,11 @@ module _ (count : ℕ) (first last : List ℕ) (size s k : ℕ) (h : sized count
   abbrev m : Map
   m = map_of count first last
 
-  pub byte-refused : (r : Refusal) → cover_of count first last k ≡ not_covered r → (rest : List Verdict) → bank_order (read_of count first last) size rest ≡ refuses r
+  pub byte-refused : (r : Refusal) → cover_of count first last k ≡ Err r → (rest : List Verdict) → bank_order (read_of count first last) size rest ≡ refuses r
   byte-refused r q rest = bank-order-refused count first last r h (cover-refused count first last k r q) size rest l
 
   pub byte-none :
-      cover_of count first last k ≡ no_entry
+      cover_of count first last k ≡ none_covers
       → (rest : List Verdict)
       → ((is_set s && ltb k (length_of (map_of count first last) s)) ≡ false → first_of rest ≡ refuses (plain 10))
       → bank_order (read_of count first last) size rest ≡ refuses (plain 10)
@@ -108,13 +106,10 @@ module _ (count : ℕ) (first last : List ℕ) (b : Bank) (s k : ℕ) where
   pub byte-unreached :
       (c : Call)
       → ((is_set s && ltb k (length_of (map_of count first last) s)) ≡ false → exists (map_of count first last) c ≡ false)
-      → {f : Byte} {r : Refusal}
-      → f ≡ stops r
-      → ByteGated count first last (length b) s k f
-      → bank_call count first last c b ≡ (byte_refused f, b)
-  byte-unreached c away {f} {r} q h =
-      let t : ByteGated count first last (length b) s k (stops r) = rw q at h in
-      rw q (call-refused count first last c b r (t _ λ x. judge-10 (map_of count first last) c _ (away x)))
+      → (r : Refusal)
+      → ByteGated count first last (length b) s k (Err r)
+      → bank_call count first last c b ≡ (Err r, b)
+  byte-unreached c away r h = call-refused count first last c b r (h _ λ x. judge-10 (map_of count first last) c _ (away x))
 
   pub byte-write-away : (v : ℕ) → (is_set s && ltb k (length_of (map_of count first last) s)) ≡ false → exists (map_of count first last) (Call.ByteWrite s k v) ≡ false
   unfolding exists
@@ -134,7 +129,7 @@ module _ (count : ℕ) (first last : List ℕ) (b : Bank) (s k : ℕ) where
     whole : (x : ℕ) → x < 256 → field_bits (map_of count first last) s k x ≡ cond fields x 0
     whole x h = t.bits x ∙ rw (mod-eq_of_lt h) refl
 
-    pub byte-write-11 : (v : ℕ) → s ≡ 2 → bank_call count first last (Call.ByteWrite s k v) b ≡ (refused (plain 11), b)
+    pub byte-write-11 : (v : ℕ) → s ≡ 2 → bank_call count first last (Call.ByteWrite s k v) b ≡ (Err (plain 11), b)
     unfolding exists misdirected
     byte-write-11 v h = call-11 count first last (Call.ByteWrite s k v) b opened there (eq-eqb s 2 h)
 

@@ -1,4 +1,5 @@
 -- A call that names a field: what `find` says of 9, 8, the entries' checks and 10, and the rules' tests of the call, from the entry that is found.
+use Rattle.std.specs.Prelude.{Result, Ok, Err}
 use mathlib.Core.Path.{◌≡◌, refl, sym, ap, ◌∙◌}
 use mathlib.Core.Bool.{Bool, true, false, ◌&&◌, ◌||◌, not}
 use mathlib.Core.List.{List, [], ◌∷◌}
@@ -8,8 +9,8 @@ use lib.IntN.{ℤ}
 use lib.ListN.{length}
 use lib.Dec.{T, ltb, eqb, ltb→lt, eqb→eq}
 use borrow.Author.Tests.{ltb-false}
+use Rattle.rules.specs.Words.{number}
 use Rattle.rules.specs.declared.Call.{Call}
-use Rattle.rules.specs.declared.Answer.TheVariants.{Number as number, Refused as refused}
 use Rattle.rules.specs.declared.Refusal.{Refusal}
 use Rattle.rules.specs.declared.Refusal.TheVariants.{Plain as plain}
 use Rattle.rules.specs.Parameter.{row_of}
@@ -27,15 +28,13 @@ use Rattle.rules.proofs.Load.Walks.{map-good}
 use Rattle.rules.proofs.Refusals.CallOrder.{judge-10, call-refused}
 use Rattle.rules.proofs.Refusals.Orders.{bank-order-accepted}
 use Rattle.rules.proofs.Bank.Places.{named-has-bytes}
-use Rattle.descriptor.specs.declared.Found.{Found}
-use Rattle.descriptor.specs.declared.Found.TheVariants.{In as is_in, Refused as not_found}
 use Rattle.descriptor.specs.declared.Named.{Named}
 use Rattle.descriptor.specs.Find.{accepted_by, told_order, found_of}
 use Rattle.descriptor.proofs.Accepts.{named-accepts}
 use Rattle.descriptor.proofs.Finds.{id-is, side-is, offset-is, width-is, signed-is, step-is, found-stops, found-9, found-8, found-in}
 use Rattle.control_set.specs.Field.{Spot, InBits, bits_at, with_bits}
 use Rattle.control_set.specs.Values.{CodesLow, number_by}
-use Rattle.control_set.specs.Gate.{Opened, Entered, FieldGated, refused_of}
+use Rattle.control_set.specs.Gate.{Opened, Entered, FieldGated}
 use Rattle.control_set.proofs.Spots.{spot-room, spot-field, bits-at-lt, number-field, with-number}
 use Rattle.control_set.proofs.Signs.{accepted-byte}
 use Rattle.control_set.proofs.Values.{named-ranged, number-named}
@@ -59,12 +58,12 @@ module _ (count : ℕ) (first last : List ℕ) (size e p i : ℕ) where
   verdict : Verdict
   verdict = bank_order (read_of count first last) size (refuse_if (not (has_field m e p i)) (plain 10) ∷ [])
 
-  pub found-gated : (f : Found) → f ≡ found_of count first last (ltb size bank_size) e p i → FieldGated count first last size e p i f
+  pub found-gated : (f : Result Named Refusal) → f ≡ found_of count first last (ltb size bank_size) e p i → FieldGated count first last size e p i f
   unfolding found_of told_order bank_order check8 verdict
-  found-gated (not_found r) q =
+  found-gated (Err r) q =
       λ rest k. pass-on (check9 (read_of count first last)) (check8 size) (check_entries (read_of count first last)) (has_field m e p i) r rest
       (found-stops verdict _ r (sym q)) k
-  found-gated (is_in f) q = go (ltb size bank_size) refl (sized count first last) refl
+  found-gated (Ok f) q = go (ltb size bank_size) refl (sized count first last) refl
     where
       go : (x : Bool) → ltb size bank_size ≡ x → (t : Bool) → sized count first last ≡ t → Entered count first last size e p i f
       go true l true h = let z = found-8 count first last (ltb size bank_size) e p i h l ∙ sym q in let o : ◌≡◌ {A = ℕ} 0 1 = cc in absurd (omega arith)
@@ -180,13 +179,10 @@ module _ (count : ℕ) (first last : List ℕ) (b : Bank) (e p i : ℕ) where
   pub call-unfound :
       (c : Call)
       → (has_field (map_of count first last) e p i ≡ false → exists (map_of count first last) c ≡ false)
-      → {f : Found} {r : Refusal}
-      → f ≡ not_found r
-      → FieldGated count first last (length b) e p i f
-      → bank_call count first last c b ≡ (refused_of f, b)
-  call-unfound c away {f} {r} q h =
-      let k : FieldGated count first last (length b) e p i (not_found r) = rw q at h in
-      rw q (call-refused count first last c b r (k _ λ l. judge-10 (map_of count first last) c _ (away l)))
+      → (r : Refusal)
+      → FieldGated count first last (length b) e p i (Err r)
+      → bank_call count first last c b ≡ (Err r, b)
+  call-unfound c away r h = call-refused count first last c b r (h _ λ l. judge-10 (map_of count first last) c _ (away l))
 
   module _ (l : has_field (map_of count first last) e p i ≡ false) where
     pub no-write : (s : ℕ) (v : ℤ) → exists (map_of count first last) (Call.Write s e p i v) ≡ false
@@ -217,15 +213,10 @@ module _ (count : ℕ) (first last : List ℕ) (b : Bank) (e i : ℕ) where
       go true false q z = refl
       go true true q z = rw (parts-12 (eqb→eq _ _ (from-true q))) at z
 
-  pub weight-unfound :
-      {f : Found} {r : Refusal}
-      → f ≡ not_found r
-      → FieldGated count first last (length b) e 0 i f
-      → refused_of f ≡ weight_call count first last b e i
+  pub weight-unfound : (r : Refusal) → FieldGated count first last (length b) e 0 i (Err r) → Err r ≡ weight_call count first last b e i
   unfolding weight_call
-  weight-unfound {f} {r} q h =
-      let k : FieldGated count first last (length b) e 0 i (not_found r) = rw q at h in
-      rw (q, k (refuse_if (not (is_weighed (map_of count first last) e i)) (plain 10) ∷ []) λ l. rw (unweighed l) refl) refl
+  weight-unfound r h =
+      rw (h (refuse_if (not (is_weighed (map_of count first last) e i)) (plain 10) ∷ []) λ l. rw (unweighed l) refl) refl
 
   module _ {f : Named} (t : Entered count first last (length b) e 0 i f) where
     order : bank_order (read_of count first last) (length b) (refuse_if (not (is_weighed (map_of count first last) e i)) (plain 10) ∷ [])
@@ -237,7 +228,7 @@ module _ (count : ℕ) (first last : List ℕ) (b : Bank) (e i : ℕ) where
         bank-order-accepted count first last t.named.ok (length b) _ t.size-is
         ∙ rw (x', y', id-is count first last t.named, and-yes (eqb (entry (map_of count first last) e).id 0x12)) refl
 
-    pub weight-10 : eqb f.id 0x12 ≡ false → refused (plain 10) ≡ weight_call count first last b e i
+    pub weight-10 : eqb f.id 0x12 ≡ false → Err (plain 10) ≡ weight_call count first last b e i
     unfolding weight_call
     weight-10 h = rw (order, h) refl
 

@@ -1,12 +1,13 @@
 -- A call that sets a number, past 10 and 11: a value that is not accepted is 12, else the bank after it is `store_of`'s.
+use Rattle.std.specs.Prelude.{Err}
 use mathlib.Core.Path.{◌≡◌, refl, sym, ap, ◌∙◌}
 use mathlib.Core.Bool.{Bool, true, false, not, cond}
 use mathlib.Core.List.{List}
 use Prim.Native.Nat.{ℕ}
 use lib.IntN.{ℤ}
 use lib.ListN.{length}
+use Rattle.rules.specs.Words.{says_yes}
 use Rattle.rules.specs.declared.Call.{Call}
-use Rattle.rules.specs.declared.Answer.TheVariants.{Yes as says_yes, Refused as refused}
 use Rattle.rules.specs.declared.Refusal.TheVariants.{Plain as plain}
 use Rattle.rules.specs.Load.{map_of}
 use Rattle.rules.specs.Place.{entry, Field}
@@ -34,7 +35,7 @@ module _ (count : ℕ) (first last : List ℕ) (b : Bank) {e p i : ℕ} {f : Nam
       → unaccepted (map_of count first last) c ≡ not (accepts (entry (map_of count first last) e) v)
       → first_of (bank_plan (map_of count first last) c b) ≡ passes
       → bank_does (map_of count first last) c b ≡ (says_yes, with_number (map_of count first last) b s e p i v)
-      → bank_call count first last c b ≡ (cond (accepted_by f v) says_yes (refused (plain 12)), store_of b s f p i v)
+      → bank_call count first last c b ≡ (cond (accepted_by f v) says_yes (Err (plain 12)), store_of b s f p i v)
   unfolding store_of
   call-stores c s v w h l u q d = go (accepted_by f v) refl
     where
@@ -43,7 +44,7 @@ module _ (count : ℕ) (first last : List ℕ) (b : Bank) {e p i : ℕ} {f : Nam
 
       go : (x : Bool) → accepted_by f v ≡ x
           → bank_call count first last c b
-          ≡ (cond x says_yes (refused (plain 12)), cond x (with_bits b s f.offset p f.width i (to_bits f.width v)) b)
+          ≡ (cond x says_yes (Err (plain 12)), cond x (with_bits b s f.offset p f.width i (to_bits f.width v)) b)
       go true y =
           call-done count first last c b (entered-opened count first last b t) h l (tested true y) q
           ∙ d

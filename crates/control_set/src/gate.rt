@@ -1,45 +1,20 @@
 // What every call on a bank checks first: 9, 8, then the entries.
 ghost use Rattle.control_set.specs.Gate.{Gated, FieldGated, ByteGated};
 
-use descriptor::{Covered, Found, cover, find, limits, load};
+use descriptor::{Named, cover, find, limits, load};
 use rules::{BANK_SIZE, Loaded, Refusal};
 
-// Past 9, 8 and the checks of the entries, with what the load answers; or the refusal.
-#[derive(Clone, Copy)]
-pub enum Gate {
-    Open {
-        rw: usize,
-        ro: usize,
-        staged: usize,
-        active: usize,
-    },
-    Refused(Refusal),
-}
-
-pub fn admit(count: usize, rw: &[u8], ro: &[u8], size: usize) -> Gate
+// 9, 8 and the checks of the entries: what the load answers, or the refusal.
+pub fn admit(count: usize, rw: &[u8], ro: &[u8], size: usize) -> Result<Loaded, Refusal>
     ensures { Gated count rw.now ro.now size result }
 {
     if !limits(count, rw, ro) {
-        return Gate::Refused(Refusal::Plain(9));
+        return Err(Refusal::Plain(9));
     }
     if size < BANK_SIZE {
-        return Gate::Refused(Refusal::Plain(8));
+        return Err(Refusal::Plain(8));
     }
-    let loaded = load(count, rw, ro);
-    match loaded {
-        Loaded::Accepted {
-            rw_count,
-            ro_count,
-            staged_length,
-            active_length,
-        } => Gate::Open {
-            rw: rw_count,
-            ro: ro_count,
-            staged: staged_length,
-            active: active_length,
-        },
-        Loaded::Refused(r) => Gate::Refused(r),
-    }
+    load(count, rw, ro)
 }
 
 // The same for a call that names a field, with what it needs of the entry; 10 for an entry, part or lane that doesn't exist.
@@ -51,20 +26,13 @@ pub fn admit_field(
     entry: usize,
     part: usize,
     lane: usize,
-) -> Found
+) -> Result<Named, Refusal>
     ensures { FieldGated count rw.now ro.now size entry part lane result }
 {
     find(count, rw, ro, size < BANK_SIZE, entry, part, lane)
 }
 
-// Whether a byte of a set has fields, for a call that names it; or the refusal.
-#[derive(Clone, Copy)]
-pub enum Byte {
-    Has(bool),
-    Refused(Refusal),
-}
-
-// The same for a call that names a byte: 9, 8, the entries' checks, then a set or offset that doesn't exist.
+// The same for a call that names a byte: 9, 8, the entries' checks, then a set or offset that doesn't exist; else whether the byte has fields.
 pub fn admit_byte(
     count: usize,
     rw: &[u8],
@@ -72,11 +40,11 @@ pub fn admit_byte(
     size: usize,
     set: usize,
     offset: usize,
-) -> Byte
+) -> Result<bool, Refusal>
     ensures { ByteGated count rw.now ro.now size set offset result }
 {
     if !limits(count, rw, ro) {
-        return Byte::Refused(Refusal::Plain(9));
+        return Err(Refusal::Plain(9));
     }
     admit_byte_within(count, rw, ro, size, set, offset)
 }
@@ -89,31 +57,21 @@ fn admit_byte_within(
     size: usize,
     set: usize,
     offset: usize,
-) -> Byte
+) -> Result<bool, Refusal>
     ensures { ByteGated count rw.now ro.now size set offset result }
 {
     if !limits(count, rw, ro) {
-        return Byte::Refused(Refusal::Plain(9));
+        return Err(Refusal::Plain(9));
     }
     if size < BANK_SIZE {
-        return Byte::Refused(Refusal::Plain(8));
+        return Err(Refusal::Plain(8));
     }
-    let covered = cover(count, rw, ro, offset);
-    match covered {
-        Covered::Refused(r) => Byte::Refused(r),
-        Covered::Nothing => Byte::Refused(Refusal::Plain(10)),
-        Covered::By {
-            number: _,
-            offset: start,
-            parts,
-            width,
-            looked: _,
-            ro: in_ro,
-        } => {
-            if !((set < 3) & !((set < 2) & in_ro)) {
-                return Byte::Refused(Refusal::Plain(10));
-            }
-            Byte::Has(offset - start < parts * width)
-        }
+    let covered = cover(count, rw, ro, offset)?;
+    let Some(by) = covered else {
+        return Err(Refusal::Plain(10));
+    };
+    if !((set < 3) & !((set < 2) & by.ro)) {
+        return Err(Refusal::Plain(10));
     }
+    Ok(offset - by.offset < by.parts * by.width)
 }

@@ -8,7 +8,6 @@ ghost use Rattle.rules.specs.Layout.{bank_size};
 ghost use Rattle.rules.specs.Bank.{fresh_bank, fresh_call, bank_call};
 ghost use Rattle.rules.specs.Beside.{weight_call};
 ghost use Rattle.descriptor.specs.Find.{accepted_by};
-ghost use Rattle.control_set.specs.Gate.{refused_of, byte_refused};
 ghost use Rattle.control_set.specs.Store.{Storable, store_of};
 
 mod accept; // accepted values
@@ -24,11 +23,11 @@ mod plan; // 13, 14 and the bits that are copied
 use crate::accept::accepts;
 use crate::bank::{app_sel_at, byte_of, read_field, write_field};
 use crate::copy::copy_planned;
-use crate::gate::{Byte, Gate, admit, admit_byte, admit_field};
+use crate::gate::{admit, admit_byte, admit_field};
 use crate::lanes::lowest_lane;
 use crate::number::{bits_of, number_of, weight_of, wide};
 use crate::plan::{Chosen, lacking, plan_all};
-use descriptor::{Found, Named, limits, load};
+use descriptor::{Named, limits, load};
 use rules::{Answer, BANK_SIZE, Call, Loaded, Refusal};
 
 // Clears a bank.
@@ -44,28 +43,13 @@ fn clear(bank: &mut [u8])
 }
 
 // fresh: clears the bank and answers both entry counts and both lengths.
-pub fn fresh(count: usize, rw: &[u8], ro: &[u8], bank: &mut [u8]) -> Loaded
+pub fn fresh(count: usize, rw: &[u8], ro: &[u8], bank: &mut [u8]) -> Result<Loaded, Refusal>
     ensures answer { result ≡ (fresh_call count rw.now ro.now bank.old).0 }
     ensures after { bank.new ≡ (fresh_call count rw.now ro.now bank.old).1 }
 {
-    let g = admit(count, rw, ro, bank.len());
-    match g {
-        Gate::Refused(r) => Loaded::Refused(r),
-        Gate::Open {
-            rw: rw_count,
-            ro: ro_count,
-            staged: staged_length,
-            active: active_length,
-        } => {
-            clear(bank);
-            Loaded::Accepted {
-                rw_count,
-                ro_count,
-                staged_length,
-                active_length,
-            }
-        }
-    }
+    let loaded = admit(count, rw, ro, bank.len())?;
+    clear(bank);
+    Ok(loaded)
 }
 
 // select: stores the AppSel of a lane of a staged set.
@@ -77,35 +61,22 @@ pub fn select(
     set: usize,
     lane: usize,
     app: usize,
-) -> Answer
+) -> Result<Answer, Refusal>
     ensures answer { result ≡ (bank_call count rw.now ro.now (Call.Select set lane app) bank.old).0 }
     ensures after { bank.new ≡ (bank_call count rw.now ro.now (Call.Select set lane app) bank.old).1 }
 {
-    let g = admit(count, rw, ro, bank.len());
-    if let Gate::Refused(r) = g {
-        return Answer::Refused(r);
-    }
+    admit(count, rw, ro, bank.len())?;
     if !((set < 3) & ((1 <= lane) & (lane <= 8))) {
-        return Answer::Refused(Refusal::Plain(10));
+        return Err(Refusal::Plain(10));
     }
     if set == 2 {
-        return Answer::Refused(Refusal::Plain(11));
+        return Err(Refusal::Plain(11));
     }
     if count < app {
-        return Answer::Refused(Refusal::Plain(12));
+        return Err(Refusal::Plain(12));
     }
     bank[app_sel_at(set, lane)] = app as u8;
-    Answer::Yes
-}
-
-// A call that names a field, where none is found.
-fn refused(found: Found) -> Answer
-    ensures { result ≡ refused_of found }
-{
-    match found {
-        Found::In(_) => Answer::Yes,
-        Found::Refused(r) => Answer::Refused(r),
-    }
+    Ok(Answer::Yes)
 }
 
 // A call that sets a number, past 10 and 11: whether the field accepts the value, which it then takes; else it keeps its own.
@@ -133,24 +104,21 @@ pub fn write(
     part: usize,
     lane: usize,
     value: i64,
-) -> Answer
+) -> Result<Answer, Refusal>
     ensures answer { result ≡ (bank_call count rw.now ro.now (Call.Write set entry part lane value) bank.old).0 }
     ensures after { bank.new ≡ (bank_call count rw.now ro.now (Call.Write set entry part lane value) bank.old).1 }
 {
-    let found = admit_field(count, rw, ro, bank.len(), entry, part, lane);
-    let Found::In(f) = found else {
-        return refused(found);
-    };
+    let f = admit_field(count, rw, ro, bank.len(), entry, part, lane)?;
     if !(set < 3) {
-        return Answer::Refused(Refusal::Plain(10));
+        return Err(Refusal::Plain(10));
     }
     if (set == 2) | f.ro {
-        return Answer::Refused(Refusal::Plain(11));
+        return Err(Refusal::Plain(11));
     }
     if !store(bank, set, f, part, lane, value) {
-        return Answer::Refused(Refusal::Plain(12));
+        return Err(Refusal::Plain(12));
     }
-    Answer::Yes
+    Ok(Answer::Yes)
 }
 
 // read: answers the number of a field.
@@ -163,31 +131,18 @@ pub fn read(
     entry: usize,
     part: usize,
     lane: usize,
-) -> Answer
+) -> Result<Answer, Refusal>
     ensures answer { result ≡ (bank_call count rw.now ro.now (Call.Read set entry part lane) bank.now).0 }
 {
-    let found = admit_field(count, rw, ro, bank.len(), entry, part, lane);
-    let Found::In(f) = found else {
-        return refused(found);
-    };
+    let f = admit_field(count, rw, ro, bank.len(), entry, part, lane)?;
     if !(set < 3) {
-        return Answer::Refused(Refusal::Plain(10));
+        return Err(Refusal::Plain(10));
     }
     if (set < 2) & f.ro {
-        return Answer::Refused(Refusal::Plain(11));
+        return Err(Refusal::Plain(11));
     }
     let bits = read_field(bank, set, f.offset, part, f.width, lane);
-    Answer::Number(number_of(f.signed, bits))
-}
-
-// A call that names a byte, refused by the gate.
-fn byte_refused(gate: Byte) -> Answer
-    ensures { result ≡ byte_refused gate }
-{
-    match gate {
-        Byte::Has(_) => Answer::Yes,
-        Byte::Refused(r) => Answer::Refused(r),
-    }
+    Ok(Answer::Number(number_of(f.signed, bits)))
 }
 
 // byte write: each field in a byte of a staged set takes its own bits; gaps become 0.
@@ -199,23 +154,20 @@ pub fn byte_write(
     set: usize,
     offset: usize,
     value: u8,
-) -> Answer
+) -> Result<Answer, Refusal>
     ensures answer { result ≡ (bank_call count rw.now ro.now (Call.ByteWrite set offset value) bank.old).0 }
     ensures after { bank.new ≡ (bank_call count rw.now ro.now (Call.ByteWrite set offset value) bank.old).1 }
 {
-    let gate = admit_byte(count, rw, ro, bank.len(), set, offset);
-    let Byte::Has(fields) = gate else {
-        return byte_refused(gate);
-    };
+    let fields = admit_byte(count, rw, ro, bank.len(), set, offset)?;
     if set == 2 {
-        return Answer::Refused(Refusal::Plain(11));
+        return Err(Refusal::Plain(11));
     }
     if fields {
         bank[byte_of(set, offset)] = value;
-        return Answer::Yes;
+        return Ok(Answer::Yes);
     }
     bank[byte_of(set, offset)] = 0;
-    Answer::Yes
+    Ok(Answer::Yes)
 }
 
 // byte read: the byte of a set where it has fields; gaps show 0.
@@ -226,17 +178,14 @@ pub fn byte_read(
     bank: &[u8],
     set: usize,
     offset: usize,
-) -> Answer
+) -> Result<Answer, Refusal>
     ensures { result ≡ (bank_call count rw.now ro.now (Call.ByteRead set offset) bank.now).0 }
 {
-    let gate = admit_byte(count, rw, ro, bank.len(), set, offset);
-    let Byte::Has(shown) = gate else {
-        return byte_refused(gate);
-    };
+    let shown = admit_byte(count, rw, ro, bank.len(), set, offset)?;
     if shown {
-        return Answer::Number(wide(bank[byte_of(set, offset)]));
+        return Ok(Answer::Number(wide(bank[byte_of(set, offset)])));
     }
-    Answer::Number(0)
+    Ok(Answer::Number(0))
 }
 
 // publish: stores an accepted value in a field of an RO entry.
@@ -249,33 +198,37 @@ pub fn publish(
     part: usize,
     lane: usize,
     value: i64,
-) -> Answer
+) -> Result<Answer, Refusal>
     ensures answer { result ≡ (bank_call count rw.now ro.now (Call.Publish entry part lane value) bank.old).0 }
     ensures after { bank.new ≡ (bank_call count rw.now ro.now (Call.Publish entry part lane value) bank.old).1 }
 {
-    let found = admit_field(count, rw, ro, bank.len(), entry, part, lane);
-    let Found::In(f) = found else {
-        return refused(found);
-    };
+    let f = admit_field(count, rw, ro, bank.len(), entry, part, lane)?;
     if !f.ro {
-        return Answer::Refused(Refusal::Plain(11));
+        return Err(Refusal::Plain(11));
     }
     if !store(bank, 2, f, part, lane, value) {
-        return Answer::Refused(Refusal::Plain(12));
+        return Err(Refusal::Plain(12));
     }
-    Answer::Yes
+    Ok(Answer::Yes)
 }
 
 // apply: copies the fields of the chosen lanes from a staged set to the active set, all or nothing.
-pub fn apply(count: usize, rw: &[u8], ro: &[u8], bank: &mut [u8], set: usize, lanes: u8) -> Answer
+pub fn apply(
+    count: usize,
+    rw: &[u8],
+    ro: &[u8],
+    bank: &mut [u8],
+    set: usize,
+    lanes: u8,
+) -> Result<Answer, Refusal>
     ensures answer { result ≡ (bank_call count rw.now ro.now (Call.Apply set lanes) bank.old).0 }
     ensures after { bank.new ≡ (bank_call count rw.now ro.now (Call.Apply set lanes) bank.old).1 }
 {
     if !limits(count, rw, ro) {
-        return Answer::Refused(Refusal::Plain(9));
+        return Err(Refusal::Plain(9));
     }
     if bank.len() < BANK_SIZE {
-        return Answer::Refused(Refusal::Plain(8));
+        return Err(Refusal::Plain(8));
     }
     apply_within(count, rw, ro, bank, set, lanes)
 }
@@ -288,44 +241,40 @@ fn apply_within(
     bank: &mut [u8],
     set: usize,
     lanes: u8,
-) -> Answer
+) -> Result<Answer, Refusal>
     requires { (sized count rw.now ro.now ≡ true) × (bank_size ≤ length bank.old) }
     ensures answer { result ≡ (bank_call count rw.now ro.now (Call.Apply set lanes) bank.old).0 }
     ensures after { bank.new ≡ (bank_call count rw.now ro.now (Call.Apply set lanes) bank.old).1 }
 {
-    let loaded = load(count, rw, ro);
-    match loaded {
-        Loaded::Refused(r) => Answer::Refused(r),
-        Loaded::Accepted {
-            rw_count,
-            ro_count: _,
-            staged_length,
-            active_length: _,
-        } => {
-            if 2 < set {
-                return Answer::Refused(Refusal::Plain(10));
-            }
-            if set == 2 {
-                return Answer::Refused(Refusal::Plain(11));
-            }
-            let chosen = Chosen { count, set, lanes };
-            let none = lowest_lane(lacking(chosen, bank));
-            if none != 0 {
-                return Answer::Refused(Refusal::AtLane(13, none));
-            }
-            let mut plan = [0; 264];
-            let bad = lowest_lane(plan_all(chosen, rw, rw_count, bank, &mut plan));
-            if bad != 0 {
-                return Answer::Refused(Refusal::AtLane(14, bad));
-            }
-            copy_planned(set, staged_length, &plan, bank);
-            Answer::Yes
-        }
+    let loaded = load(count, rw, ro)?;
+    if 2 < set {
+        return Err(Refusal::Plain(10));
     }
+    if set == 2 {
+        return Err(Refusal::Plain(11));
+    }
+    let chosen = Chosen { count, set, lanes };
+    let none = lowest_lane(lacking(chosen, bank));
+    if none != 0 {
+        return Err(Refusal::AtLane(13, none));
+    }
+    let mut plan = [0; 264];
+    let bad = lowest_lane(plan_all(chosen, rw, loaded.rw_count, bank, &mut plan));
+    if bad != 0 {
+        return Err(Refusal::AtLane(14, bad));
+    }
+    copy_planned(set, loaded.staged_length, &plan, bank);
+    Ok(Answer::Yes)
 }
 
 // Any of the seven calls.
-pub fn perform(count: usize, rw: &[u8], ro: &[u8], bank: &mut [u8], call: Call) -> Answer
+pub fn perform(
+    count: usize,
+    rw: &[u8],
+    ro: &[u8],
+    bank: &mut [u8],
+    call: Call,
+) -> Result<Answer, Refusal>
     ensures answer { result ≡ (bank_call count rw.now ro.now call bank.old).0 }
     ensures after { bank.new ≡ (bank_call count rw.now ro.now call bank.old).1 }
 {
@@ -357,16 +306,20 @@ pub fn perform(count: usize, rw: &[u8], ro: &[u8], bank: &mut [u8], call: Call) 
 }
 
 // weight: the active number of a lane of a 12h entry, in thousandths.
-pub fn weight(count: usize, rw: &[u8], ro: &[u8], bank: &[u8], entry: usize, lane: usize) -> Answer
+pub fn weight(
+    count: usize,
+    rw: &[u8],
+    ro: &[u8],
+    bank: &[u8],
+    entry: usize,
+    lane: usize,
+) -> Result<Answer, Refusal>
     ensures { result ≡ weight_call count rw.now ro.now bank.now entry lane }
 {
-    let found = admit_field(count, rw, ro, bank.len(), entry, 0, lane);
-    let Found::In(f) = found else {
-        return refused(found);
-    };
+    let f = admit_field(count, rw, ro, bank.len(), entry, 0, lane)?;
     if !(f.id == 0x12) {
-        return Answer::Refused(Refusal::Plain(10));
+        return Err(Refusal::Plain(10));
     }
     let bits = read_field(bank, 2, f.offset, 0, 8, lane);
-    Answer::Number(weight_of(f.step, number_of(true, bits)))
+    Ok(Answer::Number(weight_of(f.step, number_of(true, bits))))
 }

@@ -1,4 +1,5 @@
 -- The laws of `cover_of`: from the load's answer and where the searches end, and what a caller learns from each answer.
+use Rattle.std.specs.Prelude.{Option, Result, Err, Ok}
 use mathlib.Core.Path.{◌≡◌, refl, sym, ap, ◌∙◌}
 use mathlib.Core.Bool.{Bool, true, false, not, cond}
 use mathlib.Core.List.{List, []}
@@ -7,10 +8,10 @@ use native.Mathlib.Omega.{arith}
 use lib.ListN.{length}
 use lib.Dec.{ltb}
 use borrow.Author.Tests.{ltb-true, ltb-false, lt-ltb, le-ltb}
+use Rattle.rules.specs.Words.{accepted}
 use Rattle.rules.specs.declared.Refusal.{Refusal}
 use Rattle.rules.specs.declared.Refusal.TheVariants.{Plain as plain}
 use Rattle.rules.specs.declared.Loaded.{Loaded}
-use Rattle.rules.specs.declared.Loaded.TheVariants.{Accepted as accepted, Refused as rejected}
 use Rattle.rules.specs.Descriptor.{mask_bytes, byte_at, entry_at, entry_limit}
 use Rattle.rules.specs.Load.{Map, sized, load_of, map_of}
 use Rattle.rules.specs.Place.{entry, parts_of, width_of, is_rw, held_by, length_of}
@@ -22,8 +23,7 @@ use Rattle.rules.proofs.Load.Walks.{map-good, length-most}
 use Rattle.rules.proofs.Load.EntryHeads.{Head, strings-short, few-entries}
 use Rattle.rules.proofs.Refusals.Orders.{order-refused, order-accepted}
 use Rattle.descriptor.specs.declared.Covered.{Covered}
-use Rattle.descriptor.specs.declared.Covered.TheVariants.{By as by, Nothing as no_entry, Refused as not_covered}
-use Rattle.descriptor.specs.Cover.{cover_in, cover_of, Reachable, Hits}
+use Rattle.descriptor.specs.Cover.{none_covers, by, cover_in, cover_of, Reachable, Hits}
 use Rattle.descriptor.specs.declared.search.Hit.{Hit}
 use Rattle.descriptor.proofs.Marks.{mark_of, accepts, rw-count, all-count, active-is, passable, entry-stands, entry-heads, string-ends}
 
@@ -39,9 +39,9 @@ pub record Covering (count : ℕ) (rw ro : List ℕ) (k : ℕ) (in_ro : Bool) (n
   pub top : k < (entry (map_of count rw ro) n).offset + (entry (map_of count rw ro) n).memory
 
 -- what each answer says
-data Says (count : ℕ) (rw ro : List ℕ) (k : ℕ) : Covered → Type 0 where
-  refused : (r : Refusal) → load_of count rw ro ≡ rejected r → Says count rw ro k (not_covered r)
-  none : Accepted count rw ro → ((s : ℕ) → length_of (map_of count rw ro) s ≤ k) → Says count rw ro k no_entry
+data Says (count : ℕ) (rw ro : List ℕ) (k : ℕ) : Result (Option Covered) Refusal → Type 0 where
+  refused : (r : Refusal) → load_of count rw ro ≡ Err r → Says count rw ro k (Err r)
+  none : Accepted count rw ro → ((s : ℕ) → length_of (map_of count rw ro) s ≤ k) → Says count rw ro k none_covers
   one : {in_ro : Bool} {n offset parts width c : ℕ}
       → Covering count rw ro k in_ro n offset parts width
       → looked_at (map_of count rw ro) k ≡ c
@@ -51,11 +51,11 @@ module _ (count : ℕ) (first last : List ℕ) (k : ℕ) where
   abbrev m : Map
   m = map_of count first last
 
-  pub cover-9 : sized count first last ≡ false → not_covered (plain 9) ≡ cover_of count first last k
+  pub cover-9 : sized count first last ≡ false → Err (plain 9) ≡ cover_of count first last k
   unfolding cover_of order_of check9
   cover-9 h = rw h refl
 
-  pub cover-rejected : (r : Refusal) → load_of count first last ≡ rejected r → not_covered r ≡ cover_of count first last k
+  pub cover-rejected : (r : Refusal) → load_of count first last ≡ Err r → Err r ≡ cover_of count first last k
   unfolding cover_of
   cover-rejected r h = rw (order-refused count first last r h []) refl
 
@@ -70,7 +70,7 @@ module _ (count : ℕ) (first last : List ℕ) (k : ℕ) where
       n : ℕ
       n = cover_index m.entries k
 
-      go : (b : Bool) → ltb n (length m.entries) ≡ b → Says count first last k (cond b (by n (entry m n).offset (parts_of (entry m n)) (width_of (entry m n)) (looked_at m k) (not (is_rw m n))) no_entry)
+      go : (b : Bool) → ltb n (length m.entries) ≡ b → Says count first last k (cond b (by n (entry m n).offset (parts_of (entry m n)) (width_of (entry m n)) (looked_at m k) (not (is_rw m n))) none_covers)
       go true q =
           let x = index-spans m k (ltb-true n (length m.entries) q) in
           one (record { ok = ok; there = x.there; side = refl; offset-is = refl; parts-is = refl; width-is = refl; low = x.low; top = x.top }) refl
@@ -81,24 +81,24 @@ module _ (count : ℕ) (first last : List ℕ) (k : ℕ) where
   says : Says count first last k (cover_of count first last k)
   says = go (load_of count first last) refl
     where
-      go : (x : Loaded) → load_of count first last ≡ x → Says count first last k (cover_of count first last k)
-      go (rejected r) q = rw (← cover-rejected r q) (refused r q)
-      go (accepted n c d t) q =
-          let ok : Accepted count first last = record { rw_count = n; ro_count = c; staged = d; active = t; loads = q } in
+      go : (x : Result Loaded Refusal) → load_of count first last ≡ x → Says count first last k (cover_of count first last k)
+      go (Err r) q = rw (← cover-rejected r q) (refused r q)
+      go (Ok l) q =
+          let ok : Accepted count first last = record { rw_count = l.rw_count; ro_count = l.ro_count; staged = l.staged_length; active = l.active_length; loads = q } in
           rw (← cover-accepted ok) (in-map ok)
 
 -- for callers: what each answer says
 module _ (count : ℕ) (first last : List ℕ) (k : ℕ) where
-  pub cover-refused : (r : Refusal) → cover_of count first last k ≡ not_covered r → load_of count first last ≡ rejected r
+  pub cover-refused : (r : Refusal) → cover_of count first last k ≡ Err r → load_of count first last ≡ Err r
   cover-refused r q = go (rw q at (says count first last k))
     where
-      go : Says count first last k (not_covered r) → load_of count first last ≡ rejected r
+      go : Says count first last k (Err r) → load_of count first last ≡ Err r
       go (refused x h) = h
 
-  pub cover-none : cover_of count first last k ≡ no_entry → Accepted count first last × ((s : ℕ) → length_of (map_of count first last) s ≤ k)
+  pub cover-none : cover_of count first last k ≡ none_covers → Accepted count first last × ((s : ℕ) → length_of (map_of count first last) s ≤ k)
   cover-none q = go (rw q at (says count first last k))
     where
-      go : Says count first last k no_entry → Accepted count first last × ((s : ℕ) → length_of (map_of count first last) s ≤ k)
+      go : Says count first last k none_covers → Accepted count first last × ((s : ℕ) → length_of (map_of count first last) s ≤ k)
       go (none ok h) = (ok, h)
 
   pub cover-one :
@@ -192,12 +192,12 @@ module _ (count : ℕ) (first last : List ℕ) (k n c d t : ℕ) (h : load_of co
           omega (arith, f.low)
 
   -- none in either string
-  pub covers-none : t ≤ k → no_entry ≡ cover_of count first last k
+  pub covers-none : t ≤ k → none_covers ≡ cover_of count first last k
   unfolding cover_in held_by length_of
   covers-none past = go (ltb (cover_index p.entries k) (length p.entries)) refl ∙ cover-accepted count first last k ok
     where
       go : (b : Bool) → ltb (cover_index p.entries k) (length p.entries) ≡ b
-          → no_entry ≡ cond b (by (cover_index p.entries k) (entry p (cover_index p.entries k)).offset (parts_of (entry p (cover_index p.entries k))) (width_of (entry p (cover_index p.entries k))) (looked_at p k) (not (is_rw p (cover_index p.entries k)))) no_entry
+          → none_covers ≡ cond b (by (cover_index p.entries k) (entry p (cover_index p.entries k)).offset (parts_of (entry p (cover_index p.entries k))) (width_of (entry p (cover_index p.entries k))) (looked_at p k) (not (is_rw p (cover_index p.entries k)))) none_covers
       go true q =
           let x = index-spans p k (ltb-true _ _ q) in
           absurd (omega (arith, active-is count first last n c d t h, x.top, (map-good count first last ok).ends 2 _ x.there))

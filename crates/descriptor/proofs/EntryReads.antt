@@ -6,8 +6,8 @@ use Prim.Native.Nat.{ℕ, suc, ◌+◌, ◌<◌}
 use native.Mathlib.Omega.{arith}
 use lib.ListN.{length, get_or}
 use borrow.Author.Tests.{le-leb, lt-ltb}
+use Rattle.rules.specs.Words.{accepted}
 use Rattle.rules.specs.declared.Entry.{Entry}
-use Rattle.rules.specs.declared.Loaded.TheVariants.{Accepted as accepted}
 use Rattle.rules.specs.Descriptor.{mask_bytes, entry_at}
 use Rattle.rules.specs.Load.{load_of, rw_entries}
 use Rattle.rules.specs.Place.{nothing}

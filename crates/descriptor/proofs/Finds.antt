@@ -1,4 +1,5 @@
 -- The laws of `found_of`: from where an entry stands, and what a caller learns of the field that is found.
+use Rattle.std.specs.Prelude.{Ok, Err}
 use mathlib.Core.Path.{◌≡◌, refl, sym, ap, ◌∙◌}
 use mathlib.Core.Bool.{Bool, true, false, ◌&&◌, not, cond}
 use mathlib.Core.List.{List, [], ◌∷◌}
@@ -20,11 +21,10 @@ use Rattle.rules.proofs.Refusals.Orders.{order-passes}
 use Rattle.rules.proofs.Refusals.Verdicts.{first-passes, refuse-if-passes}
 use Rattle.rules.proofs.Load.EntryBytes.{verdict-passes}
 use Rattle.rules.proofs.Load.EntryHeads.{Head, entry-head, strings-short}
-use Rattle.descriptor.specs.declared.Located.TheVariants.{At as at, Refused as nowhere}
 use Rattle.descriptor.specs.declared.Named.{Named}
-use Rattle.descriptor.specs.declared.Found.TheVariants.{In as is_in, Refused as not_found}
-use Rattle.descriptor.specs.Locate.{located, located_of}
+use Rattle.descriptor.specs.Locate.{at, located, located_of}
 use Rattle.descriptor.specs.Find.{named_of, InMap, found, told_order, found_of, held_in}
+use Rattle.descriptor.proofs.Locates.{located-same}
 
 -- what is found of it
 module _ (count : ℕ) (first last : List ℕ) {e p i : ℕ} {f : Named} (z : InMap count first last e p i f) where
@@ -65,7 +65,7 @@ no-check8 count first last rest = go (check9 (read_of count first last))
     go (refuses r) = refl
 
 -- only a refusal finds nothing
-pub found-stops : (v : Verdict) (f : Named) (r : Refusal) → found v (is_in f) ≡ not_found r → v ≡ refuses r
+pub found-stops : (v : Verdict) (f : Named) (r : Refusal) → found v (Ok f) ≡ Err r → v ≡ refuses r
 found-stops passes f r q = let o : ◌≡◌ {A = ℕ} 0 1 = cc in absurd (omega arith)
 found-stops (refuses r') f r q = let z : r' ≡ r = cc in rw z refl
 
@@ -96,11 +96,11 @@ module _ (count : ℕ) (first last : List ℕ) (short : Bool) (e p i : ℕ) wher
   named = named_of (not (is_rw m e)) (entry m e)
 
   -- 9 and 8 of a bank that is too short
-  pub found-9 : sized count first last ≡ false → not_found (plain 9) ≡ found_of count first last short e p i
+  pub found-9 : sized count first last ≡ false → Err (plain 9) ≡ found_of count first last short e p i
   unfolding found_of told_order check9
   found-9 h = rw h refl
 
-  pub found-8 : sized count first last ≡ true → short ≡ true → not_found (plain 8) ≡ found_of count first last short e p i
+  pub found-8 : sized count first last ≡ true → short ≡ true → Err (plain 8) ≡ found_of count first last short e p i
   unfolding found_of told_order check9
   found-8 h l = rw (h, l) refl
 
@@ -108,16 +108,16 @@ module _ (count : ℕ) (first last : List ℕ) (short : Bool) (e p i : ℕ) wher
     field_verdict : Verdict
     field_verdict = order_of (read_of count first last) (refuse_if (not (has_field m e p i)) (plain 10) ∷ [])
 
-    verdict : found_of count first last short e p i ≡ found field_verdict (is_in named)
+    verdict : found_of count first last short e p i ≡ found field_verdict (Ok named)
     unfolding found_of field_verdict
     verdict = rw (l, no-check8 count first last) refl
 
-    pub located-refused-found : (r : Refusal) → located_of count first last e ≡ nowhere r → not_found r ≡ found_of count first last short e p i
+    pub located-refused-found : (r : Refusal) → located_of count first last e ≡ Err r → Err r ≡ found_of count first last short e p i
     unfolding located_of entry_verdict order_of field_verdict
-    located-refused-found r h = ap (λ v. found v (is_in named)) (sym (go (entry_verdict (read_of count first last) e) refl h)) ∙ sym verdict
+    located-refused-found r h = ap (λ v. found v (Ok named)) (sym (go (entry_verdict (read_of count first last) e) refl h)) ∙ sym verdict
       where
         go : (v : Verdict) → entry_verdict (read_of count first last) e ≡ v
-            → located v (at (not (is_rw m e)) (entry m e).start (entry m e).length (entry m e).offset) ≡ nowhere r
+            → located v (at (not (is_rw m e)) (entry m e).start (entry m e).length (entry m e).offset) ≡ Err r
             → field_verdict ≡ refuses r
         go passes z q = let o : ◌≡◌ {A = ℕ} 0 1 = cc in absurd (omega arith)
         go (refuses r') z q = let y : r' ≡ r = cc in entry-first (check9 (read_of count first last)) (check_entries (read_of count first last)) (ltb e (length m.entries)) (ltb p (parts_of (entry m e)) && is_lane i) r (z ∙ ap refuses y)
@@ -138,9 +138,9 @@ module _ (count : ℕ) (first last : List ℕ) (short : Bool) (e p i : ℕ) wher
 
       held : held_in named p i ≡ found_of count first last short e p i
       unfolding held_in
-      held = go (ltb p named.parts && is_lane i) ∙ ap (λ v. found v (is_in named)) (sym tested) ∙ sym verdict
+      held = go (ltb p named.parts && is_lane i) ∙ ap (λ v. found v (Ok named)) (sym tested) ∙ sym verdict
         where
-          go : (t : Bool) → cond t (is_in named) (not_found (plain 10)) ≡ found (first_of (refuse_if (not t) (plain 10) ∷ [])) (is_in named)
+          go : (t : Bool) → cond t (Ok named) (Err (plain 10)) ≡ found (first_of (refuse_if (not t) (plain 10) ∷ [])) (Ok named)
           go true = refl
           go false = refl
 
@@ -149,9 +149,7 @@ module _ (count : ℕ) (first last : List ℕ) (short : Bool) (e p i : ℕ) wher
       located-found =
           let q : at (not (is_rw m e)) (entry m e).start (entry m e).length (entry m e).offset ≡ at x s n o
           = rw passed at h in
-          let a : not (is_rw m e) ≡ x = cc in
-          let b : (entry m e).start ≡ s = cc in
-          let d : (entry m e).offset ≡ o = cc in
+          let (a, b, _, d) = located-same _ _ q in
           let (ok, lt) = verdict-passes count first last e passed in
           let (y, z) = side (is_rw m e) (entry-head count first last ok e lt) in
           (rw (← a, ← b, ← d) (ap (λ f. held_in f p i) y ∙ held), rw (← b) (omega (arith, limit (is_rw m e) ok)))
@@ -170,16 +168,16 @@ module _ (count : ℕ) (first last : List ℕ) (short : Bool) (e p i : ℕ) wher
 
     pub found-refused :
         (r : Refusal)
-        → found_of count first last short e p i ≡ not_found r
+        → found_of count first last short e p i ≡ Err r
         → order_of (read_of count first last) (refuse_if (not (has_field (map_of count first last) e p i)) (plain 10) ∷ []) ≡ refuses r
     unfolding field_verdict
     found-refused r h = found-stops field_verdict named r (sym verdict ∙ h)
 
-    pub found-in : (f : Named) → found_of count first last short e p i ≡ is_in f → InMap count first last e p i f
+    pub found-in : (f : Named) → found_of count first last short e p i ≡ Ok f → InMap count first last e p i f
     unfolding field_verdict
     found-in f h = go field_verdict refl (sym verdict ∙ h)
       where
-        go : (v : Verdict) → field_verdict ≡ v → found v (is_in named) ≡ is_in f → InMap count first last e p i f
+        go : (v : Verdict) → field_verdict ≡ v → found v (Ok named) ≡ Ok f → InMap count first last e p i f
         go passes z q =
             let (ok, t) = order-passes count first last _ z in
             record { ok = ok; has = not-false _ (refuse-if-passes _ _ (first-passes _ [] t).0); is = cc }

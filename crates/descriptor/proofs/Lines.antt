@@ -1,4 +1,5 @@
 -- The invariant of a walk that writes a line for each entry: the text so far, with the lines of what is left, is the lines of the string.
+use Rattle.std.specs.Prelude.{Result, Ok, Err}
 use mathlib.Core.Path.{◌≡◌, refl, ap, ◌∙◌}
 use mathlib.Core.List.{List, [], ◌∷◌, ◌++◌, append-nil, append_assoc}
 use Prim.Native.Nat.{ℕ, suc, ◌+◌, ◌*◌, ◌≤◌, ◌<◌}
@@ -7,9 +8,6 @@ use native.Mathlib.Omega.{arith}
 use lib.ListN.{length}
 use Rattle.rules.specs.declared.Entry.{Entry}
 use Rattle.rules.specs.declared.State.{State}
-use Rattle.rules.specs.declared.Decoded.{Decoded}
-use Rattle.rules.specs.declared.Decoded.TheVariants.{Entry as decoded, Refused as failed}
-use Rattle.rules.specs.declared.Walked.TheVariants.{Ended as ended, Refused as stopped}
 use Rattle.rules.specs.declared.Refusal.TheVariants.{AtEntry as at_entry}
 use Rattle.rules.specs.Descriptor.{entry_at, decode_at, limited, entry_limit}
 use Rattle.rules.specs.Load.{next, entry_number, fold_by, fold_of, onward, gather, entries_from, entries_within, walk_within}
@@ -48,17 +46,17 @@ module _ {a : ℕ} {s : List ℕ} {st₀ : State} {at : ℕ} {st : State} {text 
 
   module _ (h : at < length s) where
     -- what is left, by what stands at the place
-    left : (k : ℕ) (d : Decoded) → r.fuel ≡ suc k → decode_at a s at st ≡ d → rest a r.fuel s at st ≡ gather d st (λ e. rest a k s (at + e.length) (next st e))
+    left : (k : ℕ) (d : Result Entry ℕ) → r.fuel ≡ suc k → decode_at a s at st ≡ d → rest a r.fuel s at st ≡ gather d st (λ e. rest a k s (at + e.length) (next st e))
     left k d q p = ap (λ f. rest a f s at st) q ∙ turn-by gather (λ _. []) a s k at st h ∙ ap (λ x. gather x st (λ e. rest a k s (at + e.length) (next st e))) p
 
     -- an entry that fails a check ends the lines
-    lined-stop : (n : ℕ) → decode_at a s at st ≡ failed n → entry_lines (entry_number st₀) (entries_from a s 0 st₀) ≡ text
+    lined-stop : (n : ℕ) → decode_at a s at st ≡ Err n → entry_lines (entry_number st₀) (entries_from a s 0 st₀) ≡ text
     lined-stop n d =
         let m = more r.fuel (length s) at r.enough h in
-        r.same ∙ none-left (entry_number st) text _ (left m.0 (failed n) m.1 d)
+        r.same ∙ none-left (entry_number st) text _ (left m.0 (Err n) m.1 d)
 
     -- past an entry, with its line
-    lined-next : (e : Entry) → decode_at a s at st ≡ decoded e → Lined a s st₀ (at + e.length) (next st e) (text ++ entry_line (entry_number st) e)
+    lined-next : (e : Entry) → decode_at a s at st ≡ Ok e → Lined a s st₀ (at + e.length) (next st e) (text ++ entry_line (entry_number st) e)
     lined-next e d =
         let m = more r.fuel (length s) at r.enough h in
         let p = decode-passed a s at st e d in
@@ -66,14 +64,14 @@ module _ {a : ℕ} {s : List ℕ} {st₀ : State} {at : ℕ} {st : State} {text 
         record {
           fuel = m.0;
           enough = omega (arith, r.enough, p.long, m.1);
-          same = r.same ∙ ap (λ l. text ++ entry_lines (entry_number st) l) (left m.0 (decoded e) m.1 d) ∙ rw q (one-more (entry_number st) text e (rest a m.0 s (at + e.length) (next st e)));
+          same = r.same ∙ ap (λ l. text ++ entry_lines (entry_number st) l) (left m.0 (Ok e) m.1 d) ∙ rw q (one-more (entry_number st) text e (rest a m.0 s (at + e.length) (next st e)));
         }
 
 -- the buffer holds the text so far: at most 16 bytes for each entry, which takes at least 4 of its string; the walk stands at a place of it
 pub record Writing (a : ℕ) (s : List ℕ) (st₀ : State) (at : ℕ) (before : List ℕ) (from : ℕ) (st : State) (place : ℕ) (after : List ℕ) : Type 0 where
   text : List ℕ
   lined : Lined a s st₀ from st text
-  pub folded : Folded onward ended a s 0 st₀ from st
+  pub folded : Folded onward Ok a s 0 st₀ from st
   pub put : Put (4 * from) at text before place after
   pub inside : from ≤ length s
   pub few : st.before ≤ entry_limit
@@ -84,7 +82,7 @@ writing-begin a s st at b n h =
     record {
       text = [];
       lined = lined-begin a s st;
-      folded = begin onward ended a s 0 st;
+      folded = begin onward Ok a s 0 st;
       put = record { next = omega arith; room = omega arith; bytes = refl };
       inside = omega arith;
       few = n;
@@ -99,18 +97,18 @@ module _ {a : ℕ} {s : List ℕ} {st₀ : State} {at : ℕ} {before : List ℕ}
   writing-end h =
       record {
         put = rw (lined-end w.lined h) (put-most (4 * length s) (omega (arith, w.inside)) w.put);
-        ends = λ e q. let o : ended st ≡ ended e = done w.folded h ∙ q in cc;
+        ends = λ e q. let o : Ok st ≡ Ok e = done w.folded h ∙ q in cc;
       }
 
   module _ (h : from < length s) where
     -- an entry that fails a check
-    pub writing-stop : (n : ℕ) → decode_at a s from st ≡ failed n → Listing a s st₀ at before place st after
+    pub writing-stop : (n : ℕ) → decode_at a s from st ≡ Err n → Listing a s st₀ at before place st after
     unfolding walk_within
     writing-stop n d =
         record {
           put = rw (lined-stop w.lined h n d) (put-most (4 * length s) (omega (arith, w.inside)) w.put);
           ends = λ e q.
-              let o = out w.folded h (stopped (at_entry n (entry_number st))) (λ k. rw d refl) ∙ q in
+              let o = out w.folded h (Err (at_entry n (entry_number st))) (λ k. rw d refl) ∙ q in
               let z : ◌≡◌ {A = ℕ} 0 1 = cc in
               absurd (omega arith);
         }

@@ -1,4 +1,5 @@
 -- The laws of `located_of`, one for each way out.
+use Rattle.std.specs.Prelude.{Result, Err, Ok}
 use mathlib.Core.Path.{◌≡◌, refl, sym, ap, ◌∙◌}
 use mathlib.Core.Bool.{Bool, true, false, not, cond}
 use mathlib.Core.List.{List, []}
@@ -6,10 +7,9 @@ use Prim.Native.Nat.{ℕ, ◌+◌, ◌≤◌, ◌<◌}
 use native.Mathlib.Omega.{arith}
 use lib.ListN.{length, take, drop}
 use borrow.Author.Tests.{lt-ltb, le-ltb}
+use Rattle.rules.specs.Words.{accepted, says_yes}
 use Rattle.rules.specs.declared.Refusal.{Refusal}
 use Rattle.rules.specs.declared.Refusal.TheVariants.{Plain as plain}
-use Rattle.rules.specs.declared.Loaded.TheVariants.{Accepted as accepted, Refused as rejected}
-use Rattle.rules.specs.declared.Answer.TheVariants.{Yes as says_yes, Refused as refused}
 use Rattle.rules.specs.Descriptor.{mask_bytes, byte_at}
 use Rattle.rules.specs.Load.{Map, load_of, map_of, read_of}
 use Rattle.rules.specs.Place.{entry, is_rw}
@@ -21,15 +21,22 @@ use Rattle.rules.proofs.Demands.{note7}
 use Rattle.rules.proofs.Refusals.Orders.{order-refused, order-accepted}
 use Rattle.rules.proofs.Load.EntryHeads.{Head}
 use Rattle.rules.proofs.Load.EntryBytes.{entry-part, verdict-passes}
+use Rattle.rules.proofs.Basics.Results.{ok-same}
 use Rattle.descriptor.specs.declared.search.Mark.{Mark}
 use Rattle.descriptor.specs.declared.Located.{Located}
-use Rattle.descriptor.specs.declared.Located.TheVariants.{At as at, Refused as nowhere}
-use Rattle.descriptor.specs.Locate.{located, located_on, located_of}
+use Rattle.descriptor.specs.Locate.{at, located, located_on, located_of}
 use Rattle.descriptor.specs.Marks.{mark_after, Passable}
 use Rattle.descriptor.proofs.Marks.{mark_of, accepts, rw-count, all-count, passable, entry-stands, entry-heads}
 
+pub located-same : (x y : Located)
+    → ◌≡◌ {A = Result Located Refusal} (Ok x) (Ok y)
+    → (x.ro ≡ y.ro) × (x.start ≡ y.start) × (x.length ≡ y.length) × (x.offset ≡ y.offset)
+located-same x y h =
+    let q : x ≡ y = ok-same x y h in
+    (ap (λ (l : Located). l.ro) q, ap (λ (l : Located). l.start) q, ap (λ (l : Located). l.length) q, ap (λ (l : Located). l.offset) q)
+
 module _ (count : ℕ) (first last : List ℕ) (e : ℕ) where
-  pub located-refused : (r : Refusal) → load_of count first last ≡ rejected r → nowhere r ≡ located_of count first last e
+  pub located-refused : (r : Refusal) → load_of count first last ≡ Err r → Err r ≡ located_of count first last e
   unfolding located_of entry_verdict
   located-refused r h = rw (order-refused count first last r h _) refl
 
@@ -78,7 +85,7 @@ module _ (count : ℕ) (first last : List ℕ) (e : ℕ) where
             let y : x.length ≡ byte_at (cond in_ro last first) (x.start + 1) = ap (λ i. i.length) head.says in
             rw (found, side, mark-is, ← y) refl
 
-    pub located-10 : n + k ≤ e → nowhere (plain 10) ≡ located_of count first last e
+    pub located-10 : n + k ≤ e → Err (plain 10) ≡ located_of count first last e
     unfolding located_of entry_verdict
     located-10 l =
         rw (order-accepted count first last ok _, le-ltb e (length (map_of count first last).entries) (rw (all-count count first last n k c t h) l)) refl
@@ -88,24 +95,24 @@ module _ (count : ℕ) (first last : List ℕ) (e : ℕ) where
   unfolding located_of entry_answer
   located-yes x s l o h = go (entry_verdict (read_of count first last) e) _ h
     where
-      go : (v : Verdict) (y : Located) → located v y ≡ at x s l o → says_yes ≡ answered v says_yes
+      go : (v : Verdict) (y : Result Located Refusal) → located v y ≡ at x s l o → says_yes ≡ answered v says_yes
       go passes y q = refl
       go (refuses r) y q = let z : ◌≡◌ {A = ℕ} 0 1 = cc in absurd (omega arith)
 
-  pub located-no : (r : Refusal) → located_of count first last e ≡ nowhere r → refused r ≡ entry_answer count first last e
+  pub located-no : (r : Refusal) → located_of count first last e ≡ Err r → Err r ≡ entry_answer count first last e
   unfolding located_of entry_answer
   located-no r h = go (entry_verdict (read_of count first last) e) _ _ _ _ h
     where
-      go : (v : Verdict) (x : Bool) (s l o : ℕ) → located v (at x s l o) ≡ nowhere r → refused r ≡ answered v says_yes
+      go : (v : Verdict) (x : Bool) (s l o : ℕ) → located v (at x s l o) ≡ Err r → Err r ≡ answered v says_yes
       go passes x s l o q = let z : ◌≡◌ {A = ℕ} 0 1 = cc in absurd (omega arith)
       go (refuses r') x s l o q = let z : r' ≡ r = cc in rw z refl
 
   -- refused, an empty part
-  pub located-empty : (r : Refusal) → located_of count first last e ≡ nowhere r → [] ≡ entry_bytes count first last e
+  pub located-empty : (r : Refusal) → located_of count first last e ≡ Err r → [] ≡ entry_bytes count first last e
   unfolding located_of entry_bytes
   located-empty r h = go (entry_verdict (read_of count first last) e) _ _ _ _ _ h
     where
-      go : (v : Verdict) (b : List ℕ) (x : Bool) (s l o : ℕ) → located v (at x s l o) ≡ nowhere r → [] ≡ part_or v b
+      go : (v : Verdict) (b : List ℕ) (x : Bool) (s l o : ℕ) → located v (at x s l o) ≡ Err r → [] ≡ part_or v b
       go passes b x s l o q = let z : ◌≡◌ {A = ℕ} 0 1 = cc in absurd (omega arith)
       go (refuses r') b x s l o q = refl
 
@@ -137,9 +144,7 @@ module _ (count : ℕ) (first last : List ℕ) (e : ℕ) where
           → located v (at (not (is_rw m e)) (entry m e).start (entry m e).length (entry m e).offset) ≡ at x s l o
           → Span (cond x last first) s l (part_or v (own_bytes (cond (is_rw m e) first last) (entry m e)))
       go passes p q =
-          let a : not (is_rw m e) ≡ x = cc in
-          let b : (entry m e).start ≡ s = cc in
-          let d : (entry m e).length ≡ l = cc in
+          let (a, b, d, _) = located-same _ _ q in
           rw (← a, ← b, ← d, flip (is_rw m e)) (passes-span p)
       go (refuses r) p q = let z : ◌≡◌ {A = ℕ} 0 1 = cc in absurd (omega arith)
 

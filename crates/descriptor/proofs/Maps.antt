@@ -1,4 +1,5 @@
 -- The map of strings that load: what its two walks end with, and the text as a whole.
+use Rattle.std.specs.Prelude.{Ok}
 use mathlib.Core.Path.{◌≡◌, sym, ap, ◌∙◌}
 use mathlib.Core.List.{List}
 use Prim.Native.Nat.{ℕ, ◌+◌, ◌-◌, ◌≤◌}
@@ -9,7 +10,6 @@ use lib.Dec.{leb, leb→le}
 use borrow.Author.Tests.{eq-eqb, ne_eqb}
 use Rattle.rules.specs.declared.State.{State}
 use Rattle.rules.specs.declared.Refusal.TheVariants.{Plain as plain}
-use Rattle.rules.specs.declared.Walked.TheVariants.{Ended as ended}
 use Rattle.rules.specs.Descriptor.{mask_bytes, byte_at, entry_limit}
 use Rattle.rules.specs.Load.{start, into_ro, walk_of, sized, load_of, entries_of}
 use Rattle.rules.specs.Demands.{Accepted}
@@ -41,8 +41,8 @@ module _ (count : ℕ) (first last : List ℕ) (ok : Accepted count first last) 
       record { rw = leb→le (length first) 120 z; ro = leb→le (length last) 120 w }
 
   module _ {at₁ r₁ : ℕ} {b₁ b₂ : List ℕ} {m : State} (one : Listing (mask_bytes count) first start at₁ b₁ r₁ m b₂) where
-    to-middle : walk_of (mask_bytes count) first 0 start ≡ ended m
-    to-middle = loaded.rw-ends ∙ ap ended (sym (one.ends loaded.middle loaded.rw-ends))
+    to-middle : walk_of (mask_bytes count) first 0 start ≡ Ok m
+    to-middle = loaded.rw-ends ∙ ap Ok (sym (one.ends loaded.middle loaded.rw-ends))
 
     pub middle : Middle m
     middle =
@@ -50,11 +50,11 @@ module _ (count : ℕ) (first last : List ℕ) (ok : Accepted count first last) 
         record { few = x; sum = y }
 
     module _ {r₂ : ℕ} {b₃ : List ℕ} {e : State} (two : Listing (mask_bytes count) last (into_ro m) r₁ b₂ r₂ e b₃) where
-      to-end : walk_of (mask_bytes count) last 0 (into_ro m) ≡ ended e
+      to-end : walk_of (mask_bytes count) last 0 (into_ro m) ≡ Ok e
       to-end =
           let q : loaded.middle ≡ m = sym (one.ends loaded.middle loaded.rw-ends) in
-          let w : walk_of (mask_bytes count) last 0 (into_ro m) ≡ ended loaded.end = rw q at loaded.ro-ends in
-          w ∙ ap ended (sym (two.ends loaded.end w))
+          let w : walk_of (mask_bytes count) last 0 (into_ro m) ≡ Ok loaded.end = rw q at loaded.ro-ends in
+          w ∙ ap Ok (sym (two.ends loaded.end w))
 
       pub end-sum : e.sum ≤ 256
       end-sum = (walk-counts (mask_bytes count) last 0 (into_ro m) e (omega arith) middle.sum to-end).1

@@ -9,8 +9,8 @@ use native.Mathlib.Omega.{arith}
 use lib.ListN.{length, get_or, take, length-append, get_or-append}
 use lib.Seq.{get_or-append-add, take-length}
 use lib.Dec.{leb}
+use Rattle.rules.specs.Words.{accepted}
 use Rattle.rules.specs.declared.Entry.{Entry}
-use Rattle.rules.specs.declared.Loaded.TheVariants.{Accepted as accepted}
 use Rattle.rules.specs.Descriptor.{mask_bytes, byte_at}
 use Rattle.rules.specs.Load.{load_of, rw_entries, ro_entries, total, map_of, both_within, map_within}
 use Rattle.rules.specs.Place.{nothing, entry}

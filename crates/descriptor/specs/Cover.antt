@@ -1,28 +1,35 @@
 -- The entry whose space covers a byte: the first, in order. No two spaces share a byte.
-use Rattle.std.specs.Prelude.{◌≡◌, not, cond, List, [], ℕ, suc, ◌+◌, ◌≤◌, ◌<◌, length, ltb}
+use Rattle.std.specs.Prelude.{Bool, ◌≡◌, not, cond, List, [], ℕ, suc, ◌+◌, ◌≤◌, ◌<◌, length, ltb, Option, Some, None, Result, Ok, Err}
+use Rattle.rules.specs.declared.Refusal.{Refusal}
 use Rattle.rules.specs.Descriptor.{byte_at}
 use Rattle.rules.specs.Load.{Map, map_of, read_of}
 use Rattle.rules.specs.Place.{entry, is_rw, parts_of, width_of}
 use Rattle.rules.specs.Refuse.{Verdict, passes, refuses, order_of}
 use Rattle.rules.specs.Beside.{cover_index, looked_at}
 use Rattle.descriptor.specs.declared.Covered.{Covered}
-use Rattle.descriptor.specs.declared.Covered.TheVariants.{By as by, Nothing as no_entry, Refused as not_covered}
 use Rattle.descriptor.specs.declared.search.Hit.{Hit}
 use Rattle.descriptor.specs.Marks.{OnEntry, mark_after}
 
--- the entry of an index, with its string and number, where its fields lie, and how many were looked at
-abbrev pub covered_by : Map → ℕ → ℕ → Covered
-covered_by m n c = cond (ltb n (length m.entries)) (by n (entry m n).offset (parts_of (entry m n)) (width_of (entry m n)) c (not (is_rw m n))) no_entry
+abbrev pub by : ℕ → ℕ → ℕ → ℕ → ℕ → Bool → Result (Option Covered) Refusal
+by number offset parts width looked in_ro =
+    Ok (Some (record { number = number; offset = offset; parts = parts; width = width; looked = looked; ro = in_ro }))
 
-unfoldable pub cover_in : Map → ℕ → Covered
+pattern abbrev pub none_covers : Result (Option Covered) Refusal
+none_covers = Ok None
+
+-- the entry of an index, with its string and number, where its fields lie, and how many were looked at
+abbrev pub covered_by : Map → ℕ → ℕ → Result (Option Covered) Refusal
+covered_by m n c = cond (ltb n (length m.entries)) (by n (entry m n).offset (parts_of (entry m n)) (width_of (entry m n)) c (not (is_rw m n))) none_covers
+
+unfoldable pub cover_in : Map → ℕ → Result (Option Covered) Refusal
 cover_in m k = covered_by m (cover_index m.entries k) (looked_at m k)
 
-abbrev pub covered : Verdict → Covered → Covered
+abbrev pub covered : Verdict → Result (Option Covered) Refusal → Result (Option Covered) Refusal
 covered passes x = x
-covered (refuses r) x = not_covered r
+covered (refuses r) x = Err r
 
 -- refused as the load is
-unfoldable pub cover_of : ℕ → List ℕ → List ℕ → ℕ → Covered
+unfoldable pub cover_of : ℕ → List ℕ → List ℕ → ℕ → Result (Option Covered) Refusal
 cover_of count rw ro k = covered (order_of (read_of count rw ro) []) (cover_in (map_of count rw ro) k)
 
 -- what a search for byte k is told of a string: where the entries stand whose spaces begin at the byte or before it. None behind the covering one does

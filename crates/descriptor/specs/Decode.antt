@@ -1,20 +1,22 @@
 -- One entry of a walk, in terms of the rules' decode of it.
-use Rattle.std.specs.Prelude.{◌≡◌, Bool, true, false, ◌&&◌, not, List, ℕ, ◌+◌, ◌-◌, ◌/◌, ◌%◌, ◌≤◌, ◌<◌, length, get_or, ltb, leb, eqb}
+use Rattle.std.specs.Prelude.{◌≡◌, Bool, true, false, ◌&&◌, not, List, ℕ, ◌+◌, ◌-◌, ◌/◌, ◌%◌, ◌≤◌, ◌<◌, length, get_or, ltb, leb, eqb, Result, Ok, Err}
+use Rattle.rules.specs.declared.Entry.{Entry}
 use Rattle.rules.specs.declared.State.{State}
-use Rattle.rules.specs.declared.Decoded.{Decoded}
-use Rattle.rules.specs.declared.Decoded.TheVariants.{Entry as decoded, Refused as failed}
 use Rattle.rules.specs.Descriptor.{byte_at, reserved, entry_limit}
 use Rattle.rules.specs.Load.{next}
-use Rattle.descriptor.specs.declared.decode.Decoding.{Decoding}
-use Rattle.descriptor.specs.declared.decode.Decoding.TheVariants.{Past as past, Refused as stops}
+use Rattle.descriptor.specs.declared.decode.Past.{Past}
 use Rattle.descriptor.specs.declared.state.Count.{Count}
 use Rattle.descriptor.specs.Rows.{classes, rows, row_at}
 use Rattle.descriptor.specs.Counts.{count_of, Small}
 
+-- past an entry: the place and the counts after it
+abbrev pub past : ℕ → Count → Result Past ℕ
+past at c = Ok (record { at = at; counts = c })
+
 -- what a walk makes of a decode
-abbrev pub decoding_of : ℕ → State → Decoded → Decoding
-decoding_of at st (decoded e) = past (at + e.length) (count_of (next st e))
-decoding_of at st (failed n) = stops n
+abbrev pub decoding_of : ℕ → State → Result Entry ℕ → Result Past ℕ
+decoding_of at st (Ok e) = past (at + e.length) (count_of (next st e))
+decoding_of at st (Err n) = Err n
 
 -- the step of an entry is in the string, if the row of its ID has one
 pub record StepIn (row s : List ℕ) (from : ℕ) : Type 0 where

@@ -1,7 +1,8 @@
 -- What a call needs of the field that it names, refused as a call that is told of its bank is.
-use Rattle.std.specs.Prelude.{◌≡◌, Bool, true, false, ◌&&◌, ◌||◌, not, cond, List, [], ◌∷◌, ℕ, ◌^◌, ℤ, pos, ltb, eqb}
+use Rattle.std.specs.Prelude.{◌≡◌, Bool, true, false, ◌&&◌, ◌||◌, not, cond, List, [], ◌∷◌, ℕ, ◌^◌, ℤ, pos, ltb, eqb, Result, Ok, Err}
 use Rattle.std.specs.Int.Bits.{bit_and}
 use Rattle.std.specs.Int.Signed.{le_z}
+use Rattle.rules.specs.declared.Refusal.{Refusal}
 use Rattle.rules.specs.declared.Entry.{Entry}
 use Rattle.rules.specs.declared.Refusal.TheVariants.{Plain as plain}
 use Rattle.rules.specs.Numbers.{sum}
@@ -11,8 +12,6 @@ use Rattle.rules.specs.Place.{entry, is_rw, is_lane, has_field, parts_of, width_
 use Rattle.rules.specs.Accept.{within, in_mask, signed_byte}
 use Rattle.rules.specs.Refuse.{Verdict, passes, refuses, refuse_if, first_of, check9, check_entries}
 use Rattle.rules.specs.Demands.{Accepted}
-use Rattle.descriptor.specs.declared.Found.{Found}
-use Rattle.descriptor.specs.declared.Found.TheVariants.{In as is_in, Refused as not_found}
 use Rattle.descriptor.specs.declared.Named.{Named}
 
 -- the accepted numbers lie from the first range's beginning to the last one's end
@@ -81,21 +80,21 @@ accepted_in low high coded codes v = (le_z low v && le_z v high) && (not coded |
 abbrev pub accepted_by : Named → ℤ → Bool
 accepted_by f v = accepted_in f.low f.high f.coded f.codes v
 
-abbrev pub found : Verdict → Found → Found
+abbrev pub found : Verdict → Result Named Refusal → Result Named Refusal
 found passes x = x
-found (refuses r) x = not_found r
+found (refuses r) x = Err r
 
 -- the order of a call that is told whether its bank is too short
 unfoldable pub told_order : ℕ → List ℕ → List ℕ → Bool → List Verdict → Verdict
 told_order count rw ro short rest = first_of (check9 (read_of count rw ro) ∷ refuse_if short (plain 8) ∷ check_entries (read_of count rw ro) ∷ rest)
 
 -- 10: an entry, part or lane that doesn't exist
-unfoldable pub found_of : ℕ → List ℕ → List ℕ → Bool → ℕ → ℕ → ℕ → Found
+unfoldable pub found_of : ℕ → List ℕ → List ℕ → Bool → ℕ → ℕ → ℕ → Result Named Refusal
 found_of count rw ro short e p i =
     found
     (told_order count rw ro short (refuse_if (not (has_field (map_of count rw ro) e p i)) (plain 10) ∷ []))
-    (is_in (named_of (not (is_rw (map_of count rw ro) e)) (entry (map_of count rw ro) e)))
+    (Ok (named_of (not (is_rw (map_of count rw ro) e)) (entry (map_of count rw ro) e)))
 
 -- 10 of a part and a lane, for an entry that exists
-unfoldable pub held_in : Named → ℕ → ℕ → Found
-held_in f p i = cond (ltb p f.parts && is_lane i) (is_in f) (not_found (plain 10))
+unfoldable pub held_in : Named → ℕ → ℕ → Result Named Refusal
+held_in f p i = cond (ltb p f.parts && is_lane i) (Ok f) (Err (plain 10))

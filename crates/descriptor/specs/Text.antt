@@ -1,10 +1,9 @@
 -- The map program's text as it is written: what a writer leaves in the buffer, and what it needs of an entry that it prints.
-use Rattle.std.specs.Prelude.{◌≡◌, List, [], ◌∷◌, ◌++◌, ℕ, ◌+◌, ◌*◌, ◌≤◌, ◌<◌, length, drop}
+use Rattle.std.specs.Prelude.{◌≡◌, List, [], ◌∷◌, ◌++◌, ℕ, ◌+◌, ◌*◌, ◌≤◌, ◌<◌, length, drop, Ok}
 use Rattle.std.proofs.lemmas.List.Edits.{sets}
 use Rattle.rules.specs.Descriptor.{entry_limit}
 use Rattle.rules.specs.declared.Entry.{Entry}
 use Rattle.rules.specs.declared.State.{State}
-use Rattle.rules.specs.declared.Walked.TheVariants.{Ended as ended}
 use Rattle.rules.specs.Load.{entry_number, walk_of, entries_from}
 use Rattle.rules.specs.MapProgram.{decimal, line, entry_lines}
 
@@ -34,4 +33,4 @@ pub record Printable (a : ℕ) (s : List ℕ) (at : ℕ) (st : State) : Type 0 w
 -- the lines of a string are written, each of at most 16 bytes for an entry of at least 4; the state is that of the string's end
 pub record Listing (a : ℕ) (s : List ℕ) (begin : State) (at : ℕ) (before : List ℕ) (r : ℕ) (end : State) (after : List ℕ) : Type 0 where
   pub put : Put (4 * length s) at (entry_lines (entry_number begin) (entries_from a s 0 begin)) before r after
-  pub ends : (e : State) → walk_of a s 0 begin ≡ ended e → end ≡ e
+  pub ends : (e : State) → walk_of a s 0 begin ≡ Ok e → end ≡ e

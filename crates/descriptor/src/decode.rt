@@ -9,11 +9,11 @@ use crate::state::{Count, next};
 use crate::table::{LAST_STEP, LEAST, NEEDED, SIDE};
 use rules::ENTRY_LIMIT;
 
-// Past an entry, with the place and the counts after it, or the number of the first check that it fails.
+// Past an entry: the place and the counts after it.
 #[derive(Clone, Copy)]
-pub enum Decoding {
-    Past(usize, Count),
-    Refused(usize),
+pub struct Past {
+    pub at: usize,
+    pub counts: Count,
 }
 
 // A byte of a string, 0 past its end.
@@ -71,29 +71,39 @@ fn late_host(id: u8, media: bool, passed: bool) -> bool
     false
 }
 
-// 3 to 7, for the entry at a place, with the row of its ID.
-fn content(row: [u8; 4], in_ro: bool, a: usize, s: &[u8], at: usize, c: Count) -> Decoding
+// 3 to 7, for the entry at a place, with the row of its ID; refused, the number of the first check that it fails.
+fn content(
+    row: [u8; 4],
+    in_ro: bool,
+    a: usize,
+    s: &[u8],
+    at: usize,
+    c: Count,
+) -> Result<Past, usize>
     requires { Standing row a s.now at c }
     ensures { result ≡ decoding_of at (alone in_ro c) (content_checks (alone in_ro c) (entry_at a s.now at c.sum)) }
 {
     if !stands(row[SIDE], in_ro) {
-        return Decoding::Refused(3);
+        return Err(3);
     }
     let memory = s[at + 2 + a] as usize;
     if memory < (row[NEEDED] as usize) {
-        return Decoding::Refused(4);
+        return Err(4);
     }
     if reserved_step(row, s, at + a) {
-        return Decoding::Refused(5);
+        return Err(5);
     }
     let media = media_at(row[LEAST], s, at + 3 + a);
     if late_host(s[at], media, c.media) {
-        return Decoding::Refused(6);
+        return Err(6);
     }
     if 256 < c.sum + memory {
-        return Decoding::Refused(7);
+        return Err(7);
     }
-    Decoding::Past(at + (s[at + 1] as usize), next(c, memory, media))
+    Ok(Past {
+        at: at + (s[at + 1] as usize),
+        counts: next(c, memory, media),
+    })
 }
 
 // The entry at a place, whatever stands before it: 1 and 2, then 3 to 7.
@@ -105,21 +115,21 @@ fn checked(
     s: &[u8],
     at: usize,
     c: Count,
-) -> Decoding
+) -> Result<Past, usize>
     requires walking { Walking classes.now rows.now a s.now at c }
     requires entries_lt_entry_limit { c.entries < entry_limit }
     ensures { result ≡ decoding_of at (alone in_ro c) (decode_within unlimited a s.now at (alone in_ro c)) }
 {
     if at + 1 == s.len() {
-        return Decoding::Refused(1);
+        return Err(1);
     }
     let length = s[at + 1] as usize;
     if s.len() < at + length {
-        return Decoding::Refused(1);
+        return Err(1);
     }
     let row = rows[class_of(classes, s[at])];
     if length < (row[LEAST] as usize) + a {
-        return Decoding::Refused(2);
+        return Err(2);
     }
     content(row, in_ro, a, s, at, c)
 }
@@ -133,12 +143,12 @@ pub fn decode(
     s: &[u8],
     at: usize,
     c: Count,
-) -> Decoding
+) -> Result<Past, usize>
     requires { Walking classes.now rows.now a s.now at c }
     ensures { result ≡ decoding_of at (alone in_ro c) (decode_at a s.now at (alone in_ro c)) }
 {
     if ENTRY_LIMIT <= c.entries {
-        return Decoding::Refused(16);
+        return Err(16);
     }
     checked(classes, rows, in_ro, a, s, at, c)
 }

@@ -29,7 +29,7 @@ use crate::search::{Mark, look, seek};
 use crate::state::{into_ro, start};
 use crate::table::{LEAST, ROWS};
 use crate::text::{put_refused, put_strings};
-use crate::walk::{Counted, Entered, in_limits, pass_in, scan, to_ro};
+use crate::walk::{in_limits, pass_in, scan, to_ro};
 use rules::{Answer, Loaded, Passed, Refusal, State};
 
 // The rows of the table that `entry_read` is lent: a call names them once. By these it says of an entry what the table says (`read-entry`
@@ -38,14 +38,11 @@ pub use crate::table::{CLASSES, SHAPES};
 
 // Where an entry stands: in which string, its start and length there, and its offset in a set.
 #[derive(Clone, Copy)]
-pub enum Located {
-    At {
-        ro: bool,
-        start: usize,
-        length: usize,
-        offset: usize,
-    },
-    Refused(Refusal),
+pub struct Located {
+    pub ro: bool,
+    pub start: usize,
+    pub length: usize,
+    pub offset: usize,
 }
 
 // 9: the count is 1 to 15 and no string is over 120.
@@ -56,63 +53,41 @@ pub fn limits(count: usize, rw: &[u8], ro: &[u8]) -> bool
 }
 
 // The load: the check of both strings, their entry counts and lengths.
-pub fn load(count: usize, rw: &[u8], ro: &[u8]) -> Loaded
+pub fn load(count: usize, rw: &[u8], ro: &[u8]) -> Result<Loaded, Refusal>
     ensures { result ≡ load_of count rw.now ro.now }
 {
-    let loaded = resume(count, rw, ro, start());
-    let Loaded::Accepted {
-        rw_count,
-        ro_count,
-        staged_length,
-        active_length,
-    } = loaded
-    else {
-        return loaded;
-    };
-    // Made anew: the answer handed on as a whole is copied by wide moves.
-    Loaded::Accepted {
-        rw_count,
-        ro_count,
-        staged_length,
-        active_length,
-    }
+    resume(count, rw, ro, start())
 }
 
 // The load taken up again: given what it kept after an entry, and the bytes not yet read, it answers what the load answers. In the RW string
 // these are its rest and the RO string; in the RO string, whose rest they are, `rw` isn't read.
-pub fn resume(count: usize, rw: &[u8], ro: &[u8], st: State) -> Loaded
+pub fn resume(count: usize, rw: &[u8], ro: &[u8], st: State) -> Result<Loaded, Refusal>
     ensures { result ≡ resume_of count st rw.now ro.now }
 {
     if !in_limits(count, rw, ro) {
-        return Loaded::Refused(Refusal::Plain(9));
+        return Err(Refusal::Plain(9));
     }
     let a = mask_bytes(count);
     let classes = CLASSES;
     let rows = ROWS;
-    let first = to_ro(&classes, &rows, a, rw, st);
-    match first {
-        Entered::Refused(n, entry) => Loaded::Refused(Refusal::AtEntry(n, entry)),
-        Entered::At(before, staged, begin) => {
-            let last = scan(&classes, &rows, true, a, ro, false, begin);
-            match last {
-                Counted::Refused(n, k) => Loaded::Refused(Refusal::AtEntry(n, before + k)),
-                Counted::Ended(end) => Loaded::Accepted {
-                    rw_count: before,
-                    ro_count: end.entries,
-                    staged_length: staged,
-                    active_length: end.sum,
-                },
-            }
-        }
+    let last = to_ro(&classes, &rows, a, rw, st)?;
+    match scan(&classes, &rows, true, a, ro, false, last.counts) {
+        Err(stop) => Err(stop.after(last.before)),
+        Ok(end) => Ok(Loaded {
+            rw_count: last.before,
+            ro_count: end.entries,
+            staged_length: last.staged,
+            active_length: end.sum,
+        }),
     }
 }
 
-// One entry of a load that is made entry by entry, so that it can be broken off after it.
-pub fn pass(count: usize, rw: &[u8], ro: &[u8], st: State) -> Passed
+// One entry of a load that is made entry by entry, so that it can be broken off after it; none at the end.
+pub fn pass(count: usize, rw: &[u8], ro: &[u8], st: State) -> Result<Option<Passed>, Refusal>
     ensures { result ≡ pass_of count st rw.now ro.now }
 {
     if !in_limits(count, rw, ro) {
-        return Passed::Refused(Refusal::Plain(9));
+        return Err(Refusal::Plain(9));
     }
     let a = mask_bytes(count);
     if st.ro {
@@ -125,78 +100,53 @@ pub fn pass(count: usize, rw: &[u8], ro: &[u8], st: State) -> Passed
 }
 
 // Where the entry of a number stands, or the refusal of the entry call.
-pub fn locate(count: usize, rw: &[u8], ro: &[u8], entry: usize) -> Located
+pub fn locate(count: usize, rw: &[u8], ro: &[u8], entry: usize) -> Result<Located, Refusal>
     ensures { result ≡ located_of count rw.now ro.now entry }
 {
-    let loaded = load(count, rw, ro);
-    match loaded {
-        Loaded::Refused(r) => Located::Refused(r),
-        Loaded::Accepted {
-            rw_count,
-            ro_count,
-            staged_length,
-            active_length: _,
-        } => {
-            let a = mask_bytes(count);
-            if entry < rw_count {
-                let mark = seek(a, rw, 0, entry);
-                return Located::At {
-                    ro: false,
-                    start: mark.at,
-                    length: rw[mark.at + 1] as usize,
-                    offset: mark.sum,
-                };
-            }
-            let n = entry - rw_count;
-            if n < ro_count {
-                let mark = seek(a, ro, staged_length, n);
-                return Located::At {
-                    ro: true,
-                    start: mark.at,
-                    length: ro[mark.at + 1] as usize,
-                    offset: mark.sum,
-                };
-            }
-            Located::Refused(Refusal::Plain(10))
-        }
+    let loaded = load(count, rw, ro)?;
+    let a = mask_bytes(count);
+    if entry < loaded.rw_count {
+        let mark = seek(a, rw, 0, entry);
+        return Ok(Located {
+            ro: false,
+            start: mark.at,
+            length: rw[mark.at + 1] as usize,
+            offset: mark.sum,
+        });
     }
+    let n = entry - loaded.rw_count;
+    if n < loaded.ro_count {
+        let mark = seek(a, ro, loaded.staged_length, n);
+        return Ok(Located {
+            ro: true,
+            start: mark.at,
+            length: ro[mark.at + 1] as usize,
+            offset: mark.sum,
+        });
+    }
+    Err(Refusal::Plain(10))
 }
 
 // The call beside the entry call: yes, or the refusal.
-pub fn entry_check(count: usize, rw: &[u8], ro: &[u8], entry: usize) -> Answer
+pub fn entry_check(count: usize, rw: &[u8], ro: &[u8], entry: usize) -> Result<Answer, Refusal>
     ensures { result ≡ entry_answer count rw.now ro.now entry }
 {
-    let found = locate(count, rw, ro, entry);
-    match found {
-        Located::At {
-            ro: _,
-            start: _,
-            length: _,
-            offset: _,
-        } => Answer::Yes,
-        Located::Refused(r) => Answer::Refused(r),
-    }
+    locate(count, rw, ro, entry)?;
+    Ok(Answer::Yes)
 }
 
 // The entry call: the entry's own bytes, a part of the string that it stands in; refused, an empty part.
 pub fn entry_bytes<'a>(count: usize, rw: &'a [u8], ro: &'a [u8], entry: usize) -> &'a [u8]
     ensures { result.now ≡ entry_bytes count rw.now ro.now entry }
 {
-    let found = locate(count, rw, ro, entry);
-    let Located::At {
-        ro: in_ro,
-        start,
-        length,
-        offset: _,
-    } = found
-    else {
+    let Ok(found) = locate(count, rw, ro, entry) else {
         return &rw[..0];
     };
-    let end = start + length;
-    if in_ro {
-        return &ro[start..end];
+    let end = found.start + found.length;
+    if found.ro {
+        return &ro[found.start..end];
     }
-    &rw[start..end]
+    &rw[found.start..end]
 }
 
 // What a call needs of the entry that it names: whether it stands in the RO string, its ID, where its fields lie, whether their
@@ -217,21 +167,15 @@ pub struct Named {
     pub step: usize,
 }
 
-#[derive(Clone, Copy)]
-pub enum Found {
-    In(Named),
-    Refused(Refusal),
-}
-
 // 10: a part that the entry doesn't have, or a lane that doesn't exist.
 #[tactic(auto, unfolding(crate::specs::Find::held_in))]
-fn held(f: Named, part: usize, lane: usize) -> Found
+fn held(f: Named, part: usize, lane: usize) -> Result<Named, Refusal>
     ensures { result ≡ held_in f part lane }
 {
     if (part < f.parts) & ((1 <= lane) & (lane <= 8)) {
-        return Found::In(f);
+        return Ok(f);
     }
-    Found::Refused(Refusal::Plain(10))
+    Err(Refusal::Plain(10))
 }
 
 // The field of an entry, part and lane, for a call that is told whether its bank is too short: 9, 8, then 16 and 1 to 7, and 10 for an
@@ -244,35 +188,25 @@ pub fn find(
     entry: usize,
     part: usize,
     lane: usize,
-) -> Found
+) -> Result<Named, Refusal>
     ensures { result ≡ found_of count rw.now ro.now short entry part lane }
 {
     if short {
         if !limits(count, rw, ro) {
-            return Found::Refused(Refusal::Plain(9));
+            return Err(Refusal::Plain(9));
         }
-        return Found::Refused(Refusal::Plain(8));
+        return Err(Refusal::Plain(8));
     }
-    let place = locate(count, rw, ro, entry);
-    match place {
-        Located::Refused(r) => Found::Refused(r),
-        Located::At {
-            ro: in_ro,
-            start,
-            length: _,
-            offset,
-        } => {
-            let a = mask_bytes(count);
-            let classes = CLASSES;
-            let shapes = SHAPES;
-            if in_ro {
-                let f = named_at(&classes, &shapes, true, a, ro, start, offset);
-                return held(f, part, lane);
-            }
-            let f = named_at(&classes, &shapes, false, a, rw, start, offset);
-            held(f, part, lane)
-        }
+    let place = locate(count, rw, ro, entry)?;
+    let a = mask_bytes(count);
+    let classes = CLASSES;
+    let shapes = SHAPES;
+    if place.ro {
+        let f = named_at(&classes, &shapes, true, a, ro, place.start, place.offset);
+        return held(f, part, lane);
     }
+    let f = named_at(&classes, &shapes, false, a, rw, place.start, place.offset);
+    held(f, part, lane)
 }
 
 // What apply needs of an RW entry: its application mask, and what a call needs of it; and where it ends, which is where the next one
@@ -380,74 +314,72 @@ pub fn range_read(count: usize, s: &[u8], start: usize) -> Range
 // The entry whose space covers a byte of a set: its number, where its fields lie, the number of entries looked at, and the string that
 // it stands in (last: with the flag first the compiler builds the answer twice).
 #[derive(Clone, Copy)]
-pub enum Covered {
-    By {
-        number: usize,
-        offset: usize,
-        parts: usize,
-        width: usize,
-        looked: usize,
-        ro: bool,
-    },
-    Nothing,
-    Refused(Refusal),
+pub struct Covered {
+    pub number: usize,
+    pub offset: usize,
+    pub parts: usize,
+    pub width: usize,
+    pub looked: usize,
+    pub ro: bool,
 }
 
-// The first entry whose space covers a byte, once the load has accepted the strings: those of the RW string are looked at, then those of
-// the RO string, and none past it.
-pub fn cover(count: usize, rw: &[u8], ro: &[u8], offset: usize) -> Covered
+// The first entry whose space covers a byte, if there is one, once the load has accepted the strings: those of the RW string are looked at,
+// then those of the RO string, and none past it.
+pub fn cover(count: usize, rw: &[u8], ro: &[u8], offset: usize) -> Result<Option<Covered>, Refusal>
     ensures { result ≡ cover_of count rw.now ro.now offset }
 {
     if !limits(count, rw, ro) {
-        return Covered::Refused(Refusal::Plain(9));
+        return Err(Refusal::Plain(9));
     }
     cover_within(count, rw, ro, offset)
 }
 
 // The same without that look at the lengths. With it the strings are handed on from registers, not by a wide copy of what was
 // just stored, which the processor waits for.
-fn cover_within(count: usize, rw: &[u8], ro: &[u8], offset: usize) -> Covered
+fn cover_within(
+    count: usize,
+    rw: &[u8],
+    ro: &[u8],
+    offset: usize,
+) -> Result<Option<Covered>, Refusal>
     ensures { result ≡ cover_of count rw.now ro.now offset }
 {
-    let loaded = load(count, rw, ro);
-    match loaded {
-        Loaded::Refused(r) => Covered::Refused(r),
-        Loaded::Accepted {
-            rw_count,
-            ro_count,
-            staged_length,
-            active_length: _,
-        } => {
-            let a = mask_bytes(count);
-            let classes = CLASSES;
-            let shapes = SHAPES;
-            let first = look(a, rw, 0, rw_count, offset, 0);
-            if first.number < rw_count {
-                let f = named_at(&classes, &shapes, false, a, rw, first.at, first.sum);
-                return Covered::By {
-                    number: first.number,
-                    offset: f.offset,
-                    parts: f.parts,
-                    width: f.width,
-                    looked: first.looked,
-                    ro: false,
-                };
-            }
-            let last = look(a, ro, staged_length, ro_count, offset, first.looked);
-            if last.number < ro_count {
-                let f = named_at(&classes, &shapes, true, a, ro, last.at, last.sum);
-                return Covered::By {
-                    number: rw_count + last.number,
-                    offset: f.offset,
-                    parts: f.parts,
-                    width: f.width,
-                    looked: last.looked,
-                    ro: true,
-                };
-            }
-            Covered::Nothing
-        }
+    let loaded = load(count, rw, ro)?;
+    let a = mask_bytes(count);
+    let classes = CLASSES;
+    let shapes = SHAPES;
+    let first = look(a, rw, 0, loaded.rw_count, offset, 0);
+    if first.number < loaded.rw_count {
+        let f = named_at(&classes, &shapes, false, a, rw, first.at, first.sum);
+        return Ok(Some(Covered {
+            number: first.number,
+            offset: f.offset,
+            parts: f.parts,
+            width: f.width,
+            looked: first.looked,
+            ro: false,
+        }));
     }
+    let last = look(
+        a,
+        ro,
+        loaded.staged_length,
+        loaded.ro_count,
+        offset,
+        first.looked,
+    );
+    if last.number < loaded.ro_count {
+        let f = named_at(&classes, &shapes, true, a, ro, last.at, last.sum);
+        return Ok(Some(Covered {
+            number: loaded.rw_count + last.number,
+            offset: f.offset,
+            parts: f.parts,
+            width: f.width,
+            looked: last.looked,
+            ro: true,
+        }));
+    }
+    Ok(None)
 }
 
 // What the map program prints for an input, written from the beginning of a buffer, with its length.

@@ -8,11 +8,11 @@ ghost use Rattle.rules.specs.MapProgram.{decimal, end_line, refused_line, map_te
 ghost use Rattle.descriptor.specs.Walks.{Ready};
 ghost use Rattle.descriptor.specs.Text.{Put, Printed, entry_line, Printable, Listing};
 
-use crate::decode::{Decoding, decode};
+use crate::decode::decode;
 use crate::state::{count_of, counting, entry_number, into_ro, start};
 use crate::table::{CLASSES, ROWS};
 use crate::{load, mask_bytes};
-use rules::{Loaded, Refusal, State};
+use rules::{Refusal, State};
 
 // A place in the buffer, and the state of the walk that has written up to it.
 #[derive(Clone, Copy)]
@@ -109,13 +109,12 @@ fn put_entries(
     let mut st = begin;
     let mut line = at;
     while from < s.len() {
-        let d = decode(classes, rows, st.ro, a, s, from, count_of(st));
-        let Decoding::Past(place, after) = d else {
+        let Ok(past) = decode(classes, rows, st.ro, a, s, from, count_of(st)) else {
             return Listed { at: line, end: st };
         };
         line = put_entry(out, line, a, s, from, st);
-        from = place;
-        st = counting(st, after);
+        from = past.at;
+        st = counting(st, past.counts);
     }
     Listed { at: line, end: st }
 }
@@ -172,14 +171,8 @@ fn put_map(count: usize, rw: &[u8], ro: &[u8], out: &mut [u8; 1024]) -> usize
 pub fn put_strings(count: usize, rw: &[u8], ro: &[u8], out: &mut [u8; 1024]) -> usize
     ensures { Printed (map_text (load_of count rw.now ro.now) (entries_of count rw.now ro.now)) out.old result out.new }
 {
-    let loaded = load(count, rw, ro);
-    match loaded {
-        Loaded::Refused(r) => put_refused(out, r),
-        Loaded::Accepted {
-            rw_count: _,
-            ro_count: _,
-            staged_length: _,
-            active_length: _,
-        } => put_map(count, rw, ro, out),
+    match load(count, rw, ro) {
+        Err(r) => put_refused(out, r),
+        Ok(_) => put_map(count, rw, ro, out),
     }
 }

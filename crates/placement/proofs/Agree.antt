@@ -4,8 +4,7 @@ use mathlib.Core.Path.{◌≡◌}
 use mathlib.Core.Logic.{◌↔◌}
 use mathlib.Core.List.{List}
 use Prim.Native.Nat.{ℕ, suc}
-use Rattle.rules.specs.declared.Placed.TheVariants.{At as placed_at}
-use Rattle.rules.specs.declared.Owned.TheVariants.{Field as owned_by}
+use Rattle.rules.specs.Words.{owned_by, placed_at}
 use Rattle.rules.specs.Beside.{place_of, owner_call, owner_at_call}
 use Rattle.rules.specs.Demands.{Accepted, PlaceCovers}
 use Rattle.rules.specs.Notes.{PlaceCoversAt}

@@ -1,4 +1,5 @@
 -- The owner of a bit, from the entry that covers its byte.
+use Rattle.std.specs.Prelude.{Option, Some, None, Result, Ok, Err}
 use mathlib.Core.Path.{◌≡◌, refl, sym, ap, ◌∙◌}
 use mathlib.Core.Bool.{Bool, true, false, ◌&&◌, not, cond}
 use mathlib.Core.List.{List}
@@ -7,8 +8,9 @@ use native.Mathlib.Numerals.{add-one}
 use native.Mathlib.Omega.{arith}
 use lib.Dec.{T, ltb, ltb→lt}
 use borrow.Author.Tests.{ltb-true, ltb-false, le-ltb}
+use Rattle.rules.specs.declared.Refusal.{Refusal}
+use Rattle.rules.specs.Words.{no_owner, owned_by}
 use Rattle.rules.specs.declared.Refusal.TheVariants.{Plain as plain}
-use Rattle.rules.specs.declared.Owned.TheVariants.{Field as owned_by, Gap as no_owner, Refused as not_owned}
 use Rattle.rules.specs.Load.{Map, map_of}
 use Rattle.rules.specs.Place.{entry, parts_of, width_of, is_set, is_staged, held_by, length_of, owner_of}
 use Rattle.rules.specs.Beside.{looked_at, owned_as, is_bit, owner_call}
@@ -22,7 +24,6 @@ use Rattle.rules.proofs.Place.PlaceCalls.{owner-refused, owner-10, owner-is, spa
 use Rattle.rules.proofs.Bank.Places.{named-has-bytes}
 use Rattle.descriptor.proofs.TableRows.{parts-few, width-narrow}
 use Rattle.descriptor.specs.declared.Covered.{Covered}
-use Rattle.descriptor.specs.declared.Covered.TheVariants.{By as by, Nothing as no_entry, Refused as not_covered}
 use Rattle.descriptor.specs.Cover.{cover_of}
 use Rattle.descriptor.proofs.Covers.{Covering, cover-refused, cover-none, cover-one}
 use Rattle.placement.specs.Owner.{field_in, has_space, owned_from, Near}
@@ -32,7 +33,7 @@ owns-none :
     (count : ℕ) (rw ro : List ℕ) (s k q : ℕ)
     → Accepted count rw ro
     → ((t : ℕ) → length_of (map_of count rw ro) t ≤ k)
-    → not_owned (plain 10) ≡ owner_call count rw ro s k q
+    → Err (plain 10) ≡ owner_call count rw ro s k q
 owns-none count first last s k q ok past =
     owner-10 count first last s k q ok (rw (le-ltb k (length_of (map_of count first last) s) (past s)) (and-no (is_set s)))
 
@@ -47,7 +48,7 @@ module _ (count : ℕ) (first last : List ℕ) {k : ℕ} {in_ro : Bool} {n o par
   bit-is : is_bit m s k q ≡ has_space s in_ro q
   bit-is = rw (space-in-set count first last c.ok s n k c.there c.low c.top, c.side) refl
 
-  owns-10 : has_space s in_ro q ≡ false → not_owned (plain 10) ≡ owner_call count first last s k q
+  owns-10 : has_space s in_ro q ≡ false → Err (plain 10) ≡ owner_call count first last s k q
   owns-10 h = owner-10 count first last s k q c.ok (bit-is ∙ h)
 
   owns-near : (parts < 16) × (width < 16) × (o ≤ k) × (k - o ≤ 256)
@@ -97,23 +98,23 @@ module _ (count : ℕ) (first last : List ℕ) (k : ℕ) where
   pub near : Near (cover_of count first last k) k
   near = go (cover_of count first last k) refl
     where
-      go : (x : Covered) → cover_of count first last k ≡ x → Near x k
-      go (by n o parts width c ro) e = owns-near count first last (cover-one count first last k ro n o parts width c e).0 0 0
-      go no_entry e = tt
-      go (not_covered r) e = tt
+      go : (x : Result (Option Covered) Refusal) → cover_of count first last k ≡ x → Near x k
+      go (Ok (Some c)) e = owns-near count first last (cover-one count first last k _ _ _ _ _ _ e).0 0 0
+      go (Ok None) e = tt
+      go (Err r) e = tt
 
   pub owns : (s q : ℕ) → owned_from (cover_of count first last k) s k q ≡ owner_call count first last s k q
   owns s q = go (cover_of count first last k) refl
     where
-      go : (x : Covered) → cover_of count first last k ≡ x → owned_from x s k q ≡ owner_call count first last s k q
-      go (by n o parts width c ro) e = at (has_space s ro q) refl
+      go : (x : Result (Option Covered) Refusal) → cover_of count first last k ≡ x → owned_from x s k q ≡ owner_call count first last s k q
+      go (Ok (Some c)) e = at (has_space s c.ro q) refl
         where
-          both : Covering count first last k ro n o parts width × (looked_at (map_of count first last) k ≡ c)
-          both = cover-one count first last k ro n o parts width c e
+          both : Covering count first last k c.ro c.number c.offset c.parts c.width × (looked_at (map_of count first last) k ≡ c.looked)
+          both = cover-one count first last k c.ro c.number c.offset c.parts c.width c.looked e
 
-          at : (b : Bool) → has_space s ro q ≡ b
-              → cond b (field_in n parts width c (k - o) q) (not_owned (plain 10)) ≡ owner_call count first last s k q
+          at : (b : Bool) → has_space s c.ro q ≡ b
+              → cond b (field_in c.number c.parts c.width c.looked (k - c.offset) q) (Err (plain 10)) ≡ owner_call count first last s k q
           at true h = owns-field count first last both.0 s q h both.1
           at false h = owns-10 count first last both.0 s q h
-      go no_entry e = let (ok, past) = cover-none count first last k e in owns-none count first last s k q ok past
-      go (not_covered r) e = owner-refused count first last s k q r (cover-refused count first last k r e)
+      go (Ok None) e = let (ok, past) = cover-none count first last k e in owns-none count first last s k q ok past
+      go (Err r) e = owner-refused count first last s k q r (cover-refused count first last k r e)

@@ -1,4 +1,5 @@
 -- The place of a field, from the entry that was found: one law for each way out.
+use Rattle.std.specs.Prelude.{Err}
 use mathlib.Core.Path.{◌≡◌}
 use mathlib.Core.Bool.{true, false, ◌&&◌}
 use mathlib.Core.List.{List}
@@ -7,7 +8,6 @@ use native.Mathlib.Omega.{arith}
 use lib.ListN.{length}
 use lib.Dec.{ltb, leb, ltb→lt, leb→le}
 use Rattle.rules.specs.declared.Refusal.TheVariants.{Plain as plain}
-use Rattle.rules.specs.declared.Placed.TheVariants.{Refused as not_placed}
 use Rattle.rules.specs.Load.{Map, map_of}
 use Rattle.rules.specs.Place.{entry, parts_of, is_set, is_staged}
 use Rattle.rules.specs.Beside.{placed_in, place_of}
@@ -38,11 +38,11 @@ module _ (count : ℕ) (first last : List ℕ) {e p i : ℕ} {f : Named} (z : In
       record { part = omega (arith, parts-few (entry m e)); low = leb→le _ _ b; top = leb→le _ _ c }
 
   module _ (s : ℕ) where
-    pub placing-10 : is_set s ≡ false → not_placed (plain 10) ≡ place_of count first last s e p i
+    pub placing-10 : is_set s ≡ false → Err (plain 10) ≡ place_of count first last s e p i
     placing-10 = place-10 count first last s e p i z.ok z.has
 
     module _ (h : is_set s ≡ true) where
-      pub placing-11 : (is_staged s && f.ro) ≡ true → not_placed (plain 11) ≡ place_of count first last s e p i
+      pub placing-11 : (is_staged s && f.ro) ≡ true → Err (plain 11) ≡ place_of count first last s e p i
       placing-11 t = place-11 count first last s e p i z.ok z.has h (rw (side-is count first last z) at t)
 
       pub placing-at :

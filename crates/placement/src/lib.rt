@@ -3,20 +3,20 @@
 
 mod address;
 
-ghost use Rattle.std.specs.Prelude.{◌≡◌, ◌≤◌, ◌<◌};
+ghost use Rattle.std.specs.Prelude.{◌≡◌, ◌≤◌, ◌<◌, Ok};
 ghost use Rattle.rules.specs.Beside.{placed_in, place_of, owner_call, owner_at_call};
 ghost use Rattle.placement.specs.Owner.{field_in, Near, owned_from};
 
 use crate::address::{address_of, offset_of};
-use descriptor::{Covered, Found, cover, find};
-use rules::{Owned, Placed, Refusal};
+use descriptor::{Covered, cover, find};
+use rules::{Field, Owned, Placed, Refusal};
 
 // A place in a set: its offset, the address of this offset, and its lowest bit.
 fn placed_in(set: usize, offset: usize, bit: usize) -> Placed
-    ensures { result ≡ placed_in set offset bit }
+    ensures { Ok result ≡ placed_in set offset bit }
 {
     let at = address_of(set, offset);
-    Placed::At {
+    Placed {
         offset,
         page: at.page,
         byte: at.byte,
@@ -33,25 +33,20 @@ pub fn place(
     entry: usize,
     part: usize,
     lane: usize,
-) -> Placed
+) -> Result<Placed, Refusal>
     ensures { result ≡ place_of count rw.now ro.now set entry part lane }
 {
     // Place takes no bank: none is too short.
-    let found = find(count, rw, ro, false, entry, part, lane);
-    match found {
-        Found::Refused(r) => Placed::Refused(r),
-        Found::In(f) => {
-            if !(set < 3) {
-                return Placed::Refused(Refusal::Plain(10));
-            }
-            if (set < 2) & f.ro {
-                return Placed::Refused(Refusal::Plain(11));
-            }
-            let first = (lane - 1) * f.width;
-            let offset = f.offset + part * f.width + first / 8;
-            placed_in(set, offset, first % 8)
-        }
+    let f = find(count, rw, ro, false, entry, part, lane)?;
+    if !(set < 3) {
+        return Err(Refusal::Plain(10));
     }
+    if (set < 2) & f.ro {
+        return Err(Refusal::Plain(11));
+    }
+    let first = (lane - 1) * f.width;
+    let offset = f.offset + part * f.width + first / 8;
+    Ok(placed_in(set, offset, first % 8))
 }
 
 // The field that has a bit of an entry's space, counted from its offset: the lanes of all parts in a row, W bits each, 8 to a part. With the
@@ -65,49 +60,52 @@ fn field_in(
     bit: usize,
 ) -> Owned
     requires { (parts < 16) × (width < 16) × (byte ≤ 256) × (bit < 8) }
-    ensures { result ≡ field_in number parts width looked byte bit }
+    ensures { Ok result ≡ field_in number parts width looked byte bit }
 {
     if !(byte < parts * width) {
-        return Owned::Gap { looked };
+        return Owned {
+            field: None,
+            looked,
+        };
     }
     let before = (byte * 8 + bit) / width;
-    Owned::Field {
-        entry: number,
-        part: before / 8,
-        lane: before % 8 + 1,
+    Owned {
+        field: Some(Field {
+            entry: number,
+            part: before / 8,
+            lane: before % 8 + 1,
+        }),
         looked,
     }
 }
 
-// A bit's owner, from the entry that covers its byte.
-fn owned(covered: Covered, set: usize, offset: usize, bit: usize) -> Owned
-    requires { Near covered offset }
-    ensures { result ≡ owned_from covered set offset bit }
+// A bit's owner, from the entry that covers its byte, if one does.
+fn owned(covered: Option<Covered>, set: usize, offset: usize, bit: usize) -> Result<Owned, Refusal>
+    requires { Near (Ok covered) offset }
+    ensures { result ≡ owned_from (Ok covered) set offset bit }
 {
-    match covered {
-        Covered::Refused(r) => Owned::Refused(r),
-        Covered::Nothing => Owned::Refused(Refusal::Plain(10)),
-        Covered::By {
-            number,
-            offset: start,
-            parts,
-            width,
-            looked,
-            ro: in_ro,
-        } => {
-            if !((set < 3) & (!((set < 2) & in_ro) & (bit < 8))) {
-                return Owned::Refused(Refusal::Plain(10));
-            }
-            field_in(number, parts, width, looked, offset - start, bit)
-        }
+    let Some(c) = covered else {
+        return Err(Refusal::Plain(10));
+    };
+    if !((set < 3) & (!((set < 2) & c.ro) & (bit < 8))) {
+        return Err(Refusal::Plain(10));
     }
+    Ok(field_in(c.number, c.parts, c.width, c.looked, offset - c.offset, bit))
 }
 
-// Owner: the field that a bit of a set belongs to, or gap, and the number of entries looked at.
-pub fn owner(count: usize, rw: &[u8], ro: &[u8], set: usize, offset: usize, bit: usize) -> Owned
+// Owner: the field that a bit of a set belongs to, none in a gap, and the number of entries looked at.
+pub fn owner(
+    count: usize,
+    rw: &[u8],
+    ro: &[u8],
+    set: usize,
+    offset: usize,
+    bit: usize,
+) -> Result<Owned, Refusal>
     ensures { result ≡ owner_call count rw.now ro.now set offset bit }
 {
-    owned(cover(count, rw, ro, offset), set, offset, bit)
+    let covered = cover(count, rw, ro, offset)?;
+    owned(covered, set, offset, bit)
 }
 
 // Owner by an address, the page and byte that Table 4-1 gives an offset of the set. A call of `owner` here would keep `owner` from being
@@ -120,9 +118,10 @@ pub fn owner_at(
     page: usize,
     byte: usize,
     bit: usize,
-) -> Owned
+) -> Result<Owned, Refusal>
     ensures { result ≡ owner_at_call count rw.now ro.now set page byte bit }
 {
     let offset = offset_of(set, page, byte);
-    owned(cover(count, rw, ro, offset), set, offset, bit)
+    let covered = cover(count, rw, ro, offset)?;
+    owned(covered, set, offset, bit)
 }

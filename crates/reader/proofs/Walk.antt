@@ -1,5 +1,6 @@
 -- The reader as its functions' contracts state it (specs/Take.antt): it moves only past an entry; and on a string that the load accepts it takes
 -- from the beginning the walk's entries, start and length of each in order, and then the end, however often it is asked.
+use Rattle.std.specs.Prelude.{Option, Result, Err}
 use mathlib.Core.Path.{◌≡◌, refl, ap}
 use mathlib.Core.List.{List, ◌∷◌, ◌++◌, map}
 use Prim.Native.Nat.{ℕ, zero, suc, ◌+◌, ◌<◌}
@@ -8,10 +9,10 @@ use native.Mathlib.Omega.{arith}
 use lib.ListN.{length, get_or, take, drop, replicate}
 use lib.Seq.{take-length, drop-length, drop-cons}
 use denote.Ref.{Bor}
+use Rattle.rules.specs.Words.{no_more, taken}
 use Rattle.rules.specs.declared.Entry.{Entry}
 use Rattle.rules.specs.declared.Refusal.{Refusal}
 use Rattle.rules.specs.declared.Taken.{Taken}
-use Rattle.rules.specs.declared.Taken.TheVariants.{Part as taken, End as no_more, Refused as not_taken}
 use Rattle.rules.specs.Load.{rw_entries, ro_entries}
 use Rattle.rules.specs.Place.{nothing}
 use Rattle.rules.specs.Demands.{Accepted, lengths}
@@ -33,11 +34,11 @@ module _ (count : ℕ) (r : Reader) where
   pub moved-end : taken_by count r ≡ no_more → moved_by count r ≡ r
   moved-end h = ap (over r.src) (ReaderRules.moved-end count r.src.now r.at h)
 
-  pub moved-refused : (x : Refusal) → taken_by count r ≡ not_taken x → moved_by count r ≡ r
+  pub moved-refused : (x : Refusal) → taken_by count r ≡ Err x → moved_by count r ≡ r
   moved-refused x h = ap (over r.src) (ReaderRules.moved-refused count r.src.now r.at x h)
 
 -- ---- takes_of
-abbrev pub part_of : Entry → Taken
+abbrev pub part_of : Entry → Result (Option Taken) Refusal
 part_of e = taken e.start e.length
 
 module _ (count : ℕ) (s : Bor (List ℕ)) (l : List Entry) (reads : Reads count s.now l) (fills : lengths l ≡ length s.now) (k : ℕ) where

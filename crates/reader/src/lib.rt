@@ -1,8 +1,9 @@
 // Reading one descriptor string entry by entry: a reader over the lent string that keeps its position.
 #![tactic(auto)]
 
-ghost use Rattle.std.specs.Prelude.{◌≡◌};
-ghost use Rattle.reader.specs.Take.{refused_at, taking_of, reader_of, taken_by, moved_by};
+ghost use Rattle.std.specs.Prelude.{◌≡◌, length};
+ghost use Rattle.rules.specs.Reader.{take_of};
+ghost use Rattle.reader.specs.Take.{EndsWithin, taking_of, reader_of, taken_by, moved_by};
 
 use descriptor::{least_length, limits};
 use rules::{Refusal, Taken};
@@ -10,52 +11,36 @@ use rules::{Refusal, Taken};
 // What a reader takes, and the position after it: another one only past an entry.
 #[derive(Clone, Copy)]
 pub struct Taking {
-    pub taken: Taken,
+    pub taken: Result<Option<Taken>, Refusal>,
     pub at: usize,
 }
 
-// A refusal leaves the position as it is.
-fn refused(number: usize, at: usize) -> Taking
-    ensures { result ≡ refused_at number at }
-{
-    Taking {
-        taken: Taken::Refused(Refusal::Plain(number)),
-        at,
-    }
-}
-
-// What is taken from a string at a position: 9, the end, 1, 2, and past the entry.
+// What is taken from a string at a position: 9, the end, 1, 2, and the entry.
 #[tactic(auto, unfolding(rules::specs::Reader::take_of, rules::specs::Descriptor::length_checks, rules::specs::Descriptor::refuse))]
-fn take_at(count: usize, s: &[u8], at: usize) -> Taking
-    ensures { result ≡ taking_of count s.now at }
+fn take_at(count: usize, s: &[u8], at: usize) -> Result<Option<Taken>, Refusal>
+    ensures answer { result ≡ take_of count s.now at }
+    ensures inside { EndsWithin (length s.now) result }
 {
     if !limits(count, s, &s[..0]) {
-        return refused(9, at);
+        return Err(Refusal::Plain(9));
     }
     if s.len() <= at {
-        return Taking {
-            taken: Taken::End,
-            at,
-        };
+        return Ok(None);
     }
     let left = s.len() - at;
     if left == 1 {
-        return refused(1, at);
+        return Err(Refusal::Plain(1));
     }
     let length = s[at + 1] as usize;
     let short = length < least_length(count, s[at]);
     let overruns = left < length;
     if overruns {
-        return refused(1, at);
+        return Err(Refusal::Plain(1));
     }
     if short {
-        return refused(2, at);
+        return Err(Refusal::Plain(2));
     }
-    let next = at + length;
-    Taking {
-        taken: Taken::Part { start: at, length },
-        at: next,
-    }
+    Ok(Some(Taken { start: at, length }))
 }
 
 // A lent string and the position in it.
@@ -65,20 +50,24 @@ pub struct Reader<'a> {
     pub at: usize,
 }
 
-// A reader at the beginning of a string.
-pub fn new<'a>(src: &'a [u8]) -> Reader<'a>
-    ensures { result ≡ reader_of src.entry }
-{
-    Reader { src, at: 0 }
-}
+impl<'a> Reader<'a> {
+    // A reader at the beginning of a string.
+    pub fn new(src: &'a [u8]) -> Reader<'a>
+        ensures { result ≡ reader_of src.entry }
+    {
+        Reader { src, at: 0 }
+    }
 
-// Takes, with the count of applications: the next entry's start and length, a refusal, or the end.
-pub fn take<'s, 'a>(r: &'s mut Reader<'a>, count: usize) -> Taken
-    ensures { (result ≡ taken_by count r.old) × (r.new ≡ moved_by count r.old) }
-{
-    let x = take_at(count, r.src, r.at);
-    r.at = x.at;
-    x.taken
+    // Takes, with the count of applications: the next entry's start and length, none at the end, or a refusal.
+    pub fn take(&mut self, count: usize) -> Result<Option<Taken>, Refusal>
+        ensures { (result ≡ taken_by count self.old) × (self.new ≡ moved_by count self.old) }
+    {
+        let taken = take_at(count, self.src, self.at)?;
+        if let Some(entry) = taken {
+            self.at = entry.start + entry.length;
+        }
+        Ok(taken)
+    }
 }
 
 // What a reader that stands at a position takes, and the position after it.
@@ -86,6 +75,6 @@ pub fn take_from(count: usize, src: &[u8], at: usize) -> Taking
     ensures { result ≡ taking_of count src.now at }
 {
     let mut r = Reader { src, at };
-    let taken = take(&mut r, count);
+    let taken = r.take(count);
     Taking { taken, at: r.at }
 }

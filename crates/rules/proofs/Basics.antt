@@ -1,4 +1,5 @@
 -- Arithmetic and tests that several laws lean on.
+pub mod Results
 pub mod Tests
 pub mod Facts
 pub mod Any

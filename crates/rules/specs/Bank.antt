@@ -1,7 +1,7 @@
 -- "The bank" and the calls on it: what each answers, and the bank after it. What the bank does with its bytes is said here alone;
 -- the plain table says the same calls over its numbers.
-use Rattle.std.specs.Prelude.{Bool, true, false, ◌&&◌, not, cond, List, [], ◌∷◌, ◌++◌, ℕ, zero, suc, ◌+◌, ◌*◌, ◌/◌, ◌%◌, ◌^◌, ℤ, pos, length, get_or, set, replicate, drop}
-use Rattle.rules.specs.Words.{Loaded, rejected, Call, select, write, read, byte_write, byte_read, publish, apply, Answer, says_yes, number}
+use Rattle.std.specs.Prelude.{Bool, true, false, ◌&&◌, not, cond, List, [], ◌∷◌, ◌++◌, ℕ, zero, suc, ◌+◌, ◌*◌, ◌/◌, ◌%◌, ◌^◌, ℤ, pos, length, get_or, set, replicate, drop, Result, Err}
+use Rattle.rules.specs.Words.{Loaded, Call, select, write, read, byte_write, byte_read, publish, apply, Answer, says_yes, number, Refusal}
 use Rattle.rules.specs.Numbers.{cut, sum, any}
 use Rattle.rules.specs.Descriptor.{is_app, has_app}
 use Rattle.rules.specs.Load.{Map, Reading, load_on, read_of}
@@ -96,7 +96,7 @@ apply_bank m s lanes b =
     loop m.rw_count (λ e. loop (parts_of (entry m e)) (λ p. loop 8 (λ j. give_field m s lanes b e p (suc j)))) b
 
 -- what an accepted call answers, and the bank after it
-unfoldable pub bank_does : Map → Call → Bank → Answer × Bank
+unfoldable pub bank_does : Map → Call → Bank → Result Answer Refusal × Bank
 -- "stores AppSel"
 bank_does m (select s i a) b = (says_yes, set b (app_sel_at s i) a)
 -- "stores an accepted value"
@@ -113,10 +113,10 @@ bank_does m (publish e p i v) b = (says_yes, with_number m b 2 e p i v)
 bank_does m (apply s lanes) b = (says_yes, apply_bank m s lanes b)
 
 -- a call on a bank: "All calls read the strings anew"
-abbrev pub bank_call_on : Reading → Call → Bank → Answer × Bank
+abbrev pub bank_call_on : Reading → Call → Bank → Result Answer Refusal × Bank
 bank_call_on r c b = decide (bank_order r (length b) (judge r.map c ++ bank_plan r.map c b)) b (bank_does r.map c b)
 
-unfoldable pub bank_call : ℕ → List ℕ → List ℕ → Call → Bank → Answer × Bank
+unfoldable pub bank_call : ℕ → List ℕ → List ℕ → Call → Bank → Result Answer Refusal × Bank
 bank_call count rw ro c b = bank_call_on (read_of count rw ro) c b
 
 -- "clears the 784 bytes"; "Longer buffers are untouched beyond."
@@ -124,16 +124,16 @@ unfoldable pub fresh_bank : Bank → Bank
 fresh_bank b = replicate bank_size 0 ++ drop bank_size b
 
 -- fresh "answers both entry counts and both lengths"
-abbrev pub freshened : Verdict → Loaded → Bank → Loaded × Bank
+abbrev pub freshened : Verdict → Result Loaded Refusal → Bank → Result Loaded Refusal × Bank
 freshened passes answer b = (answer, fresh_bank b)
-freshened (refuses r) answer b = (rejected r, b)
+freshened (refuses r) answer b = (Err r, b)
 
-abbrev pub fresh_on : Reading → Bank → Loaded × Bank
+abbrev pub fresh_on : Reading → Bank → Result Loaded Refusal × Bank
 fresh_on r b = freshened (bank_order r (length b) []) (load_on r) b
 
-unfoldable pub fresh_call : ℕ → List ℕ → List ℕ → Bank → Loaded × Bank
+unfoldable pub fresh_call : ℕ → List ℕ → List ℕ → Bank → Result Loaded Refusal × Bank
 fresh_call count rw ro b = fresh_on (read_of count rw ro) b
 
 -- what the bank makes of each thing that a list holds
-unfoldable pub bank_makes : ℕ → List ℕ → List ℕ → Command → Bank → Answer × Bank
+unfoldable pub bank_makes : ℕ → List ℕ → List ℕ → Command → Bank → Result Answer Refusal × Bank
 bank_makes count rw ro (call c) b = bank_call count rw ro c b

@@ -1,7 +1,7 @@
 -- "Beside demand 3": place, owner, the entry call with the call beside it, and weight. None of them writes a byte. Each is said of what
 -- is read of the strings.
-use Rattle.std.specs.Prelude.{Bool, ◌&&◌, not, cond, List, [], ◌∷◌, ℕ, suc, ◌+◌, length, take, drop, ltb, leb, eqb}
-use Rattle.rules.specs.Words.{plain, Entry, read, Answer, says_yes, number, refused, Placed, placed_at, not_placed, Owned, owned_by, no_owner, not_owned}
+use Rattle.std.specs.Prelude.{Bool, ◌&&◌, not, cond, List, [], ◌∷◌, ℕ, suc, ◌+◌, length, take, drop, ltb, leb, eqb, Result, Err}
+use Rattle.rules.specs.Words.{plain, Entry, read, Answer, says_yes, number, Placed, placed_at, Owned, owned_by, no_owner, Refusal}
 use Rattle.rules.specs.Load.{Map, Reading, read_of}
 use Rattle.rules.specs.Place.{entry, is_set, is_rw, is_lane, length_of, field_byte, field_bit, Owner, field, gap, owner_of}
 use Rattle.rules.specs.Accept.{weight_of}
@@ -10,18 +10,18 @@ use Rattle.rules.specs.Bank.{Bank, number_in}
 use Rattle.rules.specs.Address.{addresses, address_of, offset_of}
 
 -- "place (set, entry, part, lane) answers byte and lowest bit"; 02, note 2: "page, byte and lowest bit beside the offset". Refused as read is
-abbrev pub placed_in : ℕ → ℕ → ℕ → Placed
+abbrev pub placed_in : ℕ → ℕ → ℕ → Result Placed Refusal
 placed_in s k q = placed_at k (address_of s k).page (address_of s k).byte q
 
-abbrev pub placed : Verdict → Placed → Placed
+abbrev pub placed : Verdict → Result Placed Refusal → Result Placed Refusal
 placed passes x = x
-placed (refuses r) x = not_placed r
+placed (refuses r) x = Err r
 
-abbrev pub place_on : Reading → ℕ → ℕ → ℕ → ℕ → Placed
+abbrev pub place_on : Reading → ℕ → ℕ → ℕ → ℕ → Result Placed Refusal
 place_on r s e p i =
     placed (order_of r (judge r.map (read s e p i))) (placed_in s (field_byte (entry r.map e) p i) (field_bit (entry r.map e) i))
 
-unfoldable pub place_of : ℕ → List ℕ → List ℕ → ℕ → ℕ → ℕ → ℕ → Placed
+unfoldable pub place_of : ℕ → List ℕ → List ℕ → ℕ → ℕ → ℕ → ℕ → Result Placed Refusal
 place_of count rw ro s e p i = place_on (read_of count rw ro) s e p i
 
 -- an entry's space, from offset up to offset + MemoryLength, not included; 02, note 12: "An entry with MemoryLength 0 covers no byte"
@@ -39,49 +39,49 @@ looked_at m k = suc (cover_index m.entries k)
 
 -- "owner (set, offset, bit 0 to 7) answers entry, part and lane, or gap"; 02, note 12: it "also carries the number of entries looked at".
 -- 10: a set, offset or bit that doesn't exist
-abbrev pub owned_as : ℕ → Owner → Owned
+abbrev pub owned_as : ℕ → Owner → Result Owned Refusal
 owned_as n (field e p i) = owned_by e p i n
 owned_as n gap = no_owner n
 
-abbrev pub owned : Verdict → Owned → Owned
+abbrev pub owned : Verdict → Result Owned Refusal → Result Owned Refusal
 owned passes x = x
-owned (refuses r) x = not_owned r
+owned (refuses r) x = Err r
 
 abbrev pub is_bit : Map → ℕ → ℕ → ℕ → Bool
 is_bit m s k q = is_set s && (ltb k (length_of m s) && ltb q 8)
 
-abbrev pub owner_if : Bool → Reading → ℕ → ℕ → ℕ → Owned
+abbrev pub owner_if : Bool → Reading → ℕ → ℕ → ℕ → Result Owned Refusal
 owner_if there r s k q = owned (order_of r (refuse_if (not there) (plain 10) ∷ [])) (owned_as (looked_at r.map k) (owner_of r.map s k q))
 
-abbrev pub owner_on : Reading → ℕ → ℕ → ℕ → Owned
+abbrev pub owner_on : Reading → ℕ → ℕ → ℕ → Result Owned Refusal
 owner_on r s k q = owner_if (is_bit r.map s k q) r s k q
 
-unfoldable pub owner_call : ℕ → List ℕ → List ℕ → ℕ → ℕ → ℕ → Owned
+unfoldable pub owner_call : ℕ → List ℕ → List ℕ → ℕ → ℕ → ℕ → Result Owned Refusal
 owner_call count rw ro s k q = owner_on (read_of count rw ro) s k q
 
 -- 02, note 2: "Owner accepts either form, and an address outside its set is refusal 10.": an offset, or a page and a byte that stand for one
 abbrev pub is_bit_at : Map → ℕ → ℕ → ℕ → ℕ → Bool
 is_bit_at m s page byte q = ltb (offset_of s page byte) (length (addresses s)) && is_bit m s (offset_of s page byte) q
 
-abbrev pub owner_at_on : Reading → ℕ → ℕ → ℕ → ℕ → Owned
+abbrev pub owner_at_on : Reading → ℕ → ℕ → ℕ → ℕ → Result Owned Refusal
 owner_at_on r s page byte q = owner_if (is_bit_at r.map s page byte q) r s (offset_of s page byte) q
 
-unfoldable pub owner_at_call : ℕ → List ℕ → List ℕ → ℕ → ℕ → ℕ → ℕ → Owned
+unfoldable pub owner_at_call : ℕ → List ℕ → List ℕ → ℕ → ℕ → ℕ → ℕ → Result Owned Refusal
 owner_at_call count rw ro s page byte q = owner_at_on (read_of count rw ro) s page byte q
 
 -- the entry call; 10: an entry that doesn't exist
 unfoldable pub entry_verdict : Reading → ℕ → Verdict
 entry_verdict r e = order_of r (refuse_if (not (ltb e (length r.map.entries))) (plain 10) ∷ [])
 
-abbrev pub answered : Verdict → Answer → Answer
+abbrev pub answered : Verdict → Result Answer Refusal → Result Answer Refusal
 answered passes x = x
-answered (refuses r) x = refused r
+answered (refuses r) x = Err r
 
 -- "a call beside it gives the number"
-abbrev pub entry_answer_on : Reading → ℕ → Answer
+abbrev pub entry_answer_on : Reading → ℕ → Result Answer Refusal
 entry_answer_on r e = answered (entry_verdict r e) says_yes
 
-unfoldable pub entry_answer : ℕ → List ℕ → List ℕ → ℕ → Answer
+unfoldable pub entry_answer : ℕ → List ℕ → List ℕ → ℕ → Result Answer Refusal
 entry_answer count rw ro e = entry_answer_on (read_of count rw ro) e
 
 -- "hands back that entry's own bytes, as a part of the lent string (refused: an empty part ..)"
@@ -103,11 +103,11 @@ entry_bytes count rw ro e = entry_bytes_on (read_of count rw ro) rw ro e
 abbrev pub is_weighed : Map → ℕ → ℕ → Bool
 is_weighed m e i = ltb e (length m.entries) && (eqb (entry m e).id 0x12 && is_lane i)
 
-abbrev pub weight_on : Reading → Bank → ℕ → ℕ → Answer
+abbrev pub weight_on : Reading → Bank → ℕ → ℕ → Result Answer Refusal
 weight_on r b e i =
     answered
     (bank_order r (length b) (refuse_if (not (is_weighed r.map e i)) (plain 10) ∷ []))
     (number (weight_of (entry r.map e).step (number_in r.map b 2 e 0 i)))
 
-unfoldable pub weight_call : ℕ → List ℕ → List ℕ → Bank → ℕ → ℕ → Answer
+unfoldable pub weight_call : ℕ → List ℕ → List ℕ → Bank → ℕ → ℕ → Result Answer Refusal
 weight_call count rw ro b e i = weight_on (read_of count rw ro) b e i

@@ -1,7 +1,7 @@
 -- "Refusals by who causes them": the condition of each number as a fact, in 01's words, and 01's order as a list of rules.
 -- Demand 1 says that a call is refused exactly by the first rule that applies.
-use Rattle.std.specs.Prelude.{◌≡◌, ◌⊎◌, Bool, true, false, List, [], ◌∷◌, ℕ, suc, ◌+◌, ◌-◌, ◌%◌, ◌≤◌, ◌<◌, length, T}
-use Rattle.rules.specs.Words.{Refusal, plain, at_entry, at_lane, Entry, decoded, failed, State, Call, select, write, read, byte_write, byte_read, publish, apply}
+use Rattle.std.specs.Prelude.{◌≡◌, ◌⊎◌, Bool, true, false, List, [], ◌∷◌, ℕ, suc, ◌+◌, ◌-◌, ◌%◌, ◌≤◌, ◌<◌, length, T, Ok, Err}
+use Rattle.rules.specs.Words.{Refusal, plain, at_entry, at_lane, Entry, State, Call, select, write, read, byte_write, byte_read, publish, apply}
 use Rattle.rules.specs.Numbers.{bit_of}
 use Rattle.rules.specs.Descriptor.{mask_bytes, byte_at, decode_at}
 use Rattle.rules.specs.Load.{start, next, into_ro, entry_number, Map}
@@ -56,7 +56,7 @@ pub data Way (a : ℕ) (s : List ℕ) (to : ℕ) (end : State) : ℕ → State �
   here : Way a s to end to end
   past : {at : ℕ} {st : State} (e : Entry)
       → at < length s
-      → decode_at a s at st ≡ decoded e
+      → decode_at a s at st ≡ Ok e
       → Way a s to end (at + e.length) (next st e)
       → Way a s to end at st
 
@@ -77,7 +77,7 @@ pub record Stops (a : ℕ) (s : List ℕ) (from : ℕ) (begin : State) (x : Refu
   pub way : Way a s at st from begin
   pub left : at < length s
   pub number : ℕ
-  pub fails : decode_at a s at st ≡ failed number
+  pub fails : decode_at a s at st ≡ Err number
   pub says : x ≡ at_entry number (entry_number st)
 
 -- no byte is left

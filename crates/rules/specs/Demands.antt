@@ -1,6 +1,6 @@
 -- The statements: the three demands and the twelve settings. proofs/Demands.antt proves each.
-use Rattle.std.specs.Prelude.{◌≡◌, ◌↔◌, true, false, ◌||◌, cond, List, [], ◌∷◌, ◌++◌, ℕ, suc, ◌+◌, ◌≤◌, ◌<◌, ℤ, pos, negsuc, length, get_or, take, drop, T, eqb}
-use Rattle.rules.specs.Words.{Refusal, plain, at_entry, Entry, failed, State, accepted, rejected, Call, read, Answer, refused, placed_at, not_placed, owned_by, no_owner, not_owned, no_more, not_taken}
+use Rattle.std.specs.Prelude.{◌≡◌, ◌↔◌, true, false, ◌||◌, cond, List, [], ◌∷◌, ◌++◌, ℕ, suc, ◌+◌, ◌≤◌, ◌<◌, ℤ, pos, negsuc, length, get_or, take, drop, T, eqb, Result, Err}
+use Rattle.rules.specs.Words.{Refusal, plain, at_entry, Entry, State, accepted, Call, read, Answer, placed_at, owned_by, no_owner, no_more}
 use Rattle.rules.specs.Numbers.{cut}
 use Rattle.rules.specs.Descriptor.{mask_bytes, has_app, byte_at, entry_at, decode_at}
 use Rattle.rules.specs.Load.{start, into_ro, entry_number, Map, load_of, rw_entries, ro_entries, total, map_of}
@@ -33,7 +33,7 @@ pub record Keeps (b after : Bank) (is_refused : Type 0) : Type 0 where
 -- any strings, any count, any bank
 pub record Refusals (count : ℕ) (rw ro : List ℕ) (b : Bank) : Type 0 where
   -- one entry, at any place of a string of any content, at any state: the first check that it fails, in the order 16, 1 to 7
-  pub one-entry : (a : ℕ) (s : List ℕ) (at : ℕ) (st : State) (n : ℕ) → (decode_at a s at st ≡ failed n) ↔ First (entry_rules a s at st) n
+  pub one-entry : (a : ℕ) (s : List ℕ) (at : ℕ) (st : State) (n : ℕ) → (decode_at a s at st ≡ Err n) ↔ First (entry_rules a s at st) n
   -- "after a media-side table entry of the RW string": what the state of a walk says is what the bytes that it went past say
   pub media : (a : ℕ) (s : List ℕ) (at : ℕ) (st : State) (w : Way a s at st 0 start) → (st.media ≡ true) ↔ PastMedia w
   -- "a 17th entry", of either string by itself, and "its entry number": the state of a walk counts the entries of its string that it went past,
@@ -44,35 +44,35 @@ pub record Refusals (count : ℕ) (rw ro : List ℕ) (b : Bank) : Type 0 where
       → (st.ro ≡ true) × (st.entries ≡ entries_past w) × (entry_number st ≡ middle.entries + entries_past w) × (entries_past w ≤ 16)
   -- the calls of demand 3, fresh, and the calls beside: a refusal is answered exactly if it is the first in 01's order
   pub call : (c : Call) (x : Refusal)
-      → ((bank_call count rw ro c b).0 ≡ refused x) ↔ First (bank_rules count rw ro b (call_rules (map_of count rw ro) c ++ plan_rules (map_of count rw ro) c b)) x
-  pub fresh : (x : Refusal) → ((fresh_call count rw ro b).0 ≡ rejected x) ↔ First (bank_rules count rw ro b []) x
-  pub load : (x : Refusal) → (load_of count rw ro ≡ rejected x) ↔ First (string_rules count rw ro []) x
+      → ((bank_call count rw ro c b).0 ≡ Err x) ↔ First (bank_rules count rw ro b (call_rules (map_of count rw ro) c ++ plan_rules (map_of count rw ro) c b)) x
+  pub fresh : (x : Refusal) → ((fresh_call count rw ro b).0 ≡ Err x) ↔ First (bank_rules count rw ro b []) x
+  pub load : (x : Refusal) → (load_of count rw ro ≡ Err x) ↔ First (string_rules count rw ro []) x
   pub place : (s e p i : ℕ) (x : Refusal)
-      → (place_of count rw ro s e p i ≡ not_placed x) ↔ First (string_rules count rw ro (call_rules (map_of count rw ro) (read s e p i))) x
+      → (place_of count rw ro s e p i ≡ Err x) ↔ First (string_rules count rw ro (call_rules (map_of count rw ro) (read s e p i))) x
   pub owner : (s k q : ℕ) (x : Refusal)
-      → (owner_call count rw ro s k q ≡ not_owned x)
+      → (owner_call count rw ro s k q ≡ Err x)
       ↔ First (string_rules count rw ro (gives (plain 10) (¬ ((s < 3) × (k < length_of (map_of count rw ro) s) × (q < 8))) ∷ [])) x
   -- 02, note 2: "an address outside its set is refusal 10"; a set that doesn't exist has none
   pub owner_at : (s page byte q : ℕ) (x : Refusal)
-      → (owner_at_call count rw ro s page byte q ≡ not_owned x)
+      → (owner_at_call count rw ro s page byte q ≡ Err x)
       ↔ First (string_rules count rw ro (gives (plain 10) (¬ (InSet (map_of count rw ro) s page byte × (q < 8))) ∷ [])) x
   pub own-entry : (e : ℕ) (x : Refusal)
-      → (entry_answer count rw ro e ≡ refused x)
+      → (entry_answer count rw ro e ≡ Err x)
       ↔ First (string_rules count rw ro (gives (plain 10) (¬ (e < length (map_of count rw ro).entries)) ∷ [])) x
   -- "refused: an empty part"
-  pub own-part : (e : ℕ) → (entry_bytes count rw ro e ≡ []) ↔ ((x : Refusal) × (entry_answer count rw ro e ≡ refused x))
+  pub own-part : (e : ℕ) → (entry_bytes count rw ro e ≡ []) ↔ ((x : Refusal) × (entry_answer count rw ro e ≡ Err x))
   pub weight : (e i : ℕ) (x : Refusal)
-      → (weight_call count rw ro b e i ≡ refused x)
+      → (weight_call count rw ro b e i ≡ Err x)
       ↔ First
       (bank_rules count rw ro b
       (gives (plain 10) (¬ ((e < length (map_of count rw ro).entries) × ((entry (map_of count rw ro) e).id ≡ 0x12) × Lane i)) ∷ []))
       x
   -- the reader, over one string, at any position: its refusals, and "the end (no byte left from its position on, after check 9)"
-  pub reader : (s : List ℕ) (position : ℕ) (x : Refusal) → (take_of count s position ≡ not_taken x) ↔ First (reader_rules count s position) x
+  pub reader : (s : List ℕ) (position : ℕ) (x : Refusal) → (take_of count s position ≡ Err x) ↔ First (reader_rules count s position) x
   pub reader-end : (s : List ℕ) (position : ℕ) → (take_of count s position ≡ no_more) ↔ (ReaderSized count s × (length s ≤ position))
   -- "every lent byte keeps its content"; "Longer buffers are untouched beyond."
-  pub call-keeps : (c : Call) → Keeps b (bank_call count rw ro c b).1 ((x : Refusal) × ((bank_call count rw ro c b).0 ≡ refused x))
-  pub fresh-keeps : Keeps b (fresh_call count rw ro b).1 ((x : Refusal) × ((fresh_call count rw ro b).0 ≡ rejected x))
+  pub call-keeps : (c : Call) → Keeps b (bank_call count rw ro c b).1 ((x : Refusal) × ((bank_call count rw ro c b).0 ≡ Err x))
+  pub fresh-keeps : Keeps b (fresh_call count rw ro b).1 ((x : Refusal) × ((fresh_call count rw ro b).0 ≡ Err x))
 
 abbrev pub Demand1 : Type 0
 Demand1 = (count : ℕ) (rw ro : List ℕ) (b : Bank) → Refusals count rw ro b
@@ -203,10 +203,10 @@ pub record Shows (m : Map) (b : Bank) (t : Table) : Type 0 where
       → bit_in b s k q ≡ 0
 
 -- the two machines on a list of calls, each from what its fresh left
-abbrev pub bank_run : ℕ → List ℕ → List ℕ → Bank → List Command → List Answer × Bank
+abbrev pub bank_run : ℕ → List ℕ → List ℕ → Bank → List Command → List (Result Answer Refusal) × Bank
 bank_run count rw ro bank calls = run (bank_makes count rw ro) calls (fresh_call count rw ro bank).1
 
-abbrev pub table_run : ℕ → List ℕ → List ℕ → List Command → List Answer × Table
+abbrev pub table_run : ℕ → List ℕ → List ℕ → List Command → List (Result Answer Refusal) × Table
 table_run count rw ro calls = run (table_makes count rw ro) calls fresh_table
 
 -- equal lists of answers, a bank that shows the table, and all bytes past the bank's size as they were
@@ -255,10 +255,10 @@ pub record Twelve : Type 0 where
   -- −128 is 80h
   pub P7 : (to_bits 8 (negsuc 127) ≡ 0x80) × (from_bits true 8 0x80 ≡ negsuc 127)
   -- Length 0, two bytes left: refusal 2, whatever the ID
-  pub P8 : (id : ℕ) → load_of 4 (id ∷ 0 ∷ []) [] ≡ rejected (at_entry 2 0)
+  pub P8 : (id : ℕ) → load_of 4 (id ∷ 0 ∷ []) [] ≡ Err (at_entry 2 0)
   -- 04h with MemoryLength 3: refusal 4; with 5: accepted
   pub P9 :
-      (load_of 4 (0x04 ∷ 7 ∷ 0x0F ∷ 3 ∷ 0 ∷ 0xFF ∷ 0xFF ∷ []) [] ≡ rejected (at_entry 4 0))
+      (load_of 4 (0x04 ∷ 7 ∷ 0x0F ∷ 3 ∷ 0 ∷ 0xFF ∷ 0xFF ∷ []) [] ≡ Err (at_entry 4 0))
       × (load_of 4 (0x04 ∷ 7 ∷ 0x0F ∷ 5 ∷ 0 ∷ 0xFF ∷ 0xFF ∷ []) [] ≡ accepted 1 0 5 5)
   -- 04h, mask 1FFFh: 12 accepted, 13 not
   pub P10 : (e : Entry) → e.id ≡ 0x04 → e.codes ≡ 0x1FFF → (accepts e (pos 12) ≡ true) × (accepts e (pos 13) ≡ false)
@@ -271,4 +271,4 @@ pub record Twelve : Type 0 where
   -- two 00h entries reserving 255 and 1: accepted; 255 and 2: refusal 7
   pub P12 :
       (load_of 4 (0 ∷ 4 ∷ 0 ∷ 255 ∷ 0 ∷ 4 ∷ 0 ∷ 1 ∷ []) [] ≡ accepted 2 0 256 256)
-      × (load_of 4 (0 ∷ 4 ∷ 0 ∷ 255 ∷ 0 ∷ 4 ∷ 0 ∷ 2 ∷ []) [] ≡ rejected (at_entry 7 1))
+      × (load_of 4 (0 ∷ 4 ∷ 0 ∷ 255 ∷ 0 ∷ 4 ∷ 0 ∷ 2 ∷ []) [] ≡ Err (at_entry 7 1))

@@ -1,6 +1,6 @@
 -- "What a module advertises": the bytes of one entry; and "Refusals": the checks of one entry, 16 and 1 to 7, in their order.
-use Rattle.std.specs.Prelude.{Bool, true, false, ◌&&◌, ◌||◌, not, cond, List, [], ◌∷◌, ℕ, zero, suc, ◌+◌, ◌-◌, ◌*◌, ◌%◌, length, get_or, ltb, leb, eqb}
-use Rattle.rules.specs.Words.{Entry, Decoded, decoded, failed, State}
+use Rattle.std.specs.Prelude.{Bool, true, false, ◌&&◌, ◌||◌, not, cond, List, [], ◌∷◌, ℕ, zero, suc, ◌+◌, ◌-◌, ◌*◌, ◌%◌, length, get_or, ltb, leb, eqb, Result, Ok, Err}
+use Rattle.rules.specs.Words.{Entry, State}
 use Rattle.rules.specs.Numbers.{bit_of}
 use Rattle.rules.specs.Parameter.{Side, RW, RO, both, Extra, index, target, code_mask, min, max, step, row_of}
 
@@ -107,12 +107,12 @@ abbrev pub late_host : Entry → Bool → Bool
 late_host e passed = leb 2 e.id && (leb e.id 8 && (not e.media && passed))
 
 -- a check: its number if the entry fails it, else what follows
-unfoldable pub refuse : Bool → ℕ → Decoded → Decoded
-refuse true n d = failed n
+unfoldable pub refuse : Bool → ℕ → Result Entry ℕ → Result Entry ℕ
+refuse true n d = Err n
 refuse false n d = d
 
 -- "Within an entry, in this order": 1, and 2, "Length below the least"; `left` is the number of bytes left
-unfoldable pub length_checks : ℕ → ℕ → Entry → Decoded → Decoded
+unfoldable pub length_checks : ℕ → ℕ → Entry → Result Entry ℕ → Result Entry ℕ
 length_checks a left e rest =
     refuse (overruns left e) 1
     (refuse (ltb e.length ((row_of e.id).least + a)) 2
@@ -123,14 +123,14 @@ abbrev pub reserved : ℕ × ℕ → ℕ → Bool
 reserved steps n = ltb n steps.0 || ltb steps.1 n
 
 -- 3: "ID in the wrong string"; 4: "MemoryLength below the bytes needed"; 5; 6; 7: "the sum of MemoryLengths passes 256"
-unfoldable pub content_checks : State → Entry → Decoded
+unfoldable pub content_checks : State → Entry → Result Entry ℕ
 content_checks st e =
     refuse (not (may_stand (row_of e.id).side st.ro)) 3
     (refuse (ltb e.memory (row_of e.id).needed) 4
     (refuse (reserved (row_of e.id).steps e.step) 5
     (refuse (late_host e st.media) 6
     (refuse (ltb 256 (st.sum + e.memory)) 7
-    (decoded e)))))
+    (Ok e)))))
 
 -- how many entries a string may have: any number, as 01 has it, or at most a given one
 pub data Limit : Type 0 where
@@ -150,11 +150,11 @@ full unlimited st = false
 full (up_to n) st = leb n st.entries
 
 -- one entry: what stands at a place of a string, for a walk that keeps a state; 16 is "given before the other checks of that entry"
-unfoldable pub decode_within : Limit → ℕ → List ℕ → ℕ → State → Decoded
+unfoldable pub decode_within : Limit → ℕ → List ℕ → ℕ → State → Result Entry ℕ
 decode_within limit a s at st =
     refuse (full limit st) 16
     (length_checks a (length s - at) (entry_at a s at st.sum)
     (content_checks st (entry_at a s at st.sum)))
 
-abbrev pub decode_at : ℕ → List ℕ → ℕ → State → Decoded
+abbrev pub decode_at : ℕ → List ℕ → ℕ → State → Result Entry ℕ
 decode_at = decode_within limited

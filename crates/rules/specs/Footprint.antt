@@ -1,8 +1,8 @@
 -- The footprint of a call on lanes: it reads and writes only bits of its lanes' fields and its lanes' AppSels.
 -- Byte calls are left out: a byte may hold fields of several lanes, and gaps, which a byte write clears.
 -- proofs/Footprints proves the statements. What a call leaves past the bank's size is in demand 1.
-use Rattle.std.specs.Prelude.{◌≡◌, Bool, true, false, not, List, ℕ, ◌≤◌, ◌<◌, length, T, eqb}
-use Rattle.rules.specs.Words.{Call, select, write, read, byte_write, byte_read, publish, apply, Answer}
+use Rattle.std.specs.Prelude.{◌≡◌, Bool, true, false, not, List, ℕ, ◌≤◌, ◌<◌, length, T, eqb, Result}
+use Rattle.rules.specs.Words.{Call, select, write, read, byte_write, byte_read, publish, apply, Answer, Refusal}
 use Rattle.rules.specs.Load.{Map, map_of}
 use Rattle.rules.specs.Place.{entry, Field, covers}
 use Rattle.rules.specs.Refuse.{chooses}
@@ -60,7 +60,7 @@ abbrev pub SameOn : Map → (ℕ → Bool) → Bank → Bank → Type 0
 SameOn m on b b' = (i : ℕ) → 1 ≤ i → i ≤ 8 → T (on i) → SameLane m i b b'
 
 -- two outcomes from two banks: one answer, and a lane that was the same is the same
-pub record Alike (m : Map) (b b' : Bank) (x y : Answer × Bank) : Type 0 where
+pub record Alike (m : Map) (b b' : Bank) (x y : Result Answer Refusal × Bank) : Type 0 where
   pub answer : x.0 ≡ y.0
   pub lanes : (i : ℕ) → 1 ≤ i → i ≤ 8 → SameLane m i b b' → SameLane m i x.1 y.1
 

@@ -1,6 +1,6 @@
 -- "The map program": what it prints, as a list of bytes, for what it reads.
-use Rattle.std.specs.Prelude.{Bool, cond, List, [], ◌∷◌, ◌++◌, ℕ, zero, suc, ◌+◌, ◌/◌, ◌%◌, length, take, drop, ltb, eqb}
-use Rattle.rules.specs.Words.{Refusal, plain, number_of, Entry, Loaded, accepted, rejected}
+use Rattle.std.specs.Prelude.{Bool, cond, List, [], ◌∷◌, ◌++◌, ℕ, zero, suc, ◌+◌, ◌/◌, ◌%◌, length, take, drop, ltb, eqb, Result, Err, Ok}
+use Rattle.rules.specs.Words.{Refusal, plain, number_of, Entry, Loaded}
 use Rattle.rules.specs.Descriptor.{byte_at}
 use Rattle.rules.specs.Load.{Reading, load_on, read_of}
 
@@ -53,9 +53,9 @@ end_line staged active = 101 ∷ 110 ∷ 100 ∷ line (staged ∷ active ∷ [])
 unfoldable pub refused_line : Refusal → List ℕ
 refused_line r = 114 ∷ 101 ∷ 102 ∷ 117 ∷ 115 ∷ 101 ∷ 100 ∷ line (number_of r ∷ [])
 
-abbrev pub map_text : Loaded → List Entry → List ℕ
-map_text (accepted rw_count ro_count staged active) entries = heading ++ (entry_lines 0 entries ++ end_line staged active)
-map_text (rejected r) entries = refused_line r
+abbrev pub map_text : Result Loaded Refusal → List Entry → List ℕ
+map_text (Ok l) entries = heading ++ (entry_lines 0 entries ++ end_line l.staged_length l.active_length)
+map_text (Err r) entries = refused_line r
 
 -- "Input that is short or long prints `refused 9`; another refusal prints its number so."
 abbrev pub output_on : Reading → List ℕ → List ℕ

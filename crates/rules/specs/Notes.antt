@@ -1,6 +1,6 @@
 -- What 02 says of its notes: the statements. proofs/Demands.antt proves each, beside the demands.
-use Rattle.std.specs.Prelude.{◌≡◌, ◌↔◌, true, false, cond, List, [], ℕ, zero, suc, ◌+◌, ◌≤◌, ◌<◌, length, take, drop}
-use Rattle.rules.specs.Words.{Refusal, plain, at_entry, at_lane, decoded, failed, State, ended, Loaded, accepted, rejected, Passed, past, passed_all, not_passed, Call, read, number, placed_at, owned_by, no_owner}
+use Rattle.std.specs.Prelude.{◌≡◌, ◌↔◌, true, false, cond, List, [], ℕ, zero, suc, ◌+◌, ◌≤◌, ◌<◌, length, take, drop, Option, Result, Ok, Err, Some}
+use Rattle.rules.specs.Words.{Refusal, plain, at_entry, at_lane, State, Loaded, Passed, passed_all, Call, read, number, placed_at, owned_by, no_owner}
 use Rattle.rules.specs.Descriptor.{mask_bytes, byte_at, unlimited}
 use Rattle.rules.specs.Load.{start, into_ro, entry_number, Turn, Reading, fold_of, walk_within, read_within, read_of, sized, load_on, load_of, resume_of, pass_of, map_of}
 use Rattle.rules.specs.Place.{entry, width_of}
@@ -83,8 +83,8 @@ pub record Note2 : Type 0 where
 
 -- how many entries of a string a walk without a limit comes to, the one that fails a check among them
 abbrev pub tally : Turn ℕ
-tally (decoded e) st k = suc (k e)
-tally (failed n) st k = 1
+tally (Ok e) st k = suc (k e)
+tally (Err n) st k = 1
 
 abbrev pub comes_to : ℕ → List ℕ → State → ℕ
 comes_to a s begin = fold_of unlimited tally (λ _. 0) a s 0 begin
@@ -93,7 +93,7 @@ comes_to a s begin = fold_of unlimited tally (λ _. 0) a s 0 begin
 pub record AtMost16 (count : ℕ) (rw ro : List ℕ) : Type 0 where
   pub in-rw : comes_to (mask_bytes count) rw start ≤ 16
   pub in-ro : (middle : State)
-      → walk_within unlimited (mask_bytes count) rw 0 start ≡ ended middle
+      → walk_within unlimited (mask_bytes count) rw 0 start ≡ Ok middle
       → comes_to (mask_bytes count) ro (into_ro middle) ≤ 16
 
 -- what is read of the strings without a limit
@@ -131,25 +131,26 @@ pub record Break : Type 0 where
   pub rw : List ℕ
   pub ro : List ℕ
 
-abbrev pub resume_at : ℕ → Break → Loaded
+abbrev pub resume_at : ℕ → Break → Result Loaded Refusal
 resume_at count b = resume_of count b.kept b.rw b.ro
 
 -- an entry further, whose bytes are read; where none passes, as it was
-abbrev pub left_by : Break → Passed → Break
-left_by b (past st n) = cond st.ro (record { kept = st; rw = []; ro = drop n b.ro }) (record { kept = st; rw = drop n b.rw; ro = b.ro })
+abbrev pub left_by : Break → Result (Option Passed) Refusal → Break
+left_by b (Ok (Some e)) =
+    cond e.state.ro (record { kept = e.state; rw = []; ro = drop e.length b.ro }) (record { kept = e.state; rw = drop e.length b.rw; ro = b.ro })
 left_by b passed_all = b
-left_by b (not_passed r) = b
+left_by b (Err r) = b
 
 unfoldable pub further : ℕ → ℕ → Break → Break
 further count zero b = b
 further count (suc k) b = let at : Break = further count k b in left_by at (pass_of count at.kept at.rw at.ro)
 
 -- how many entries a load passes
-abbrev pub passes : Loaded → ℕ
-passes (accepted n k c t) = n + k
-passes (rejected (plain n)) = 0
-passes (rejected (at_entry n e)) = e
-passes (rejected (at_lane n i)) = 0
+abbrev pub passes : Result Loaded Refusal → ℕ
+passes (Ok l) = l.rw_count + l.ro_count
+passes (Err (plain n)) = 0
+passes (Err (at_entry n e)) = e
+passes (Err (at_lane n i)) = 0
 
 -- n bytes of a string with its whole first entry, whose Length is the second byte
 abbrev pub WholeEntry : ℕ → List ℕ → Type 0
@@ -165,7 +166,7 @@ pub record TakenUp (count : ℕ) (rw ro : List ℕ) : Type 0 where
   -- taken up in any state, with any bytes, and broken off again: as often as one likes
   pub again : (st : State) (k : ℕ) → resume_at count (further count k (record { kept = st; rw = rw; ro = ro })) ≡ resume_of count st rw ro
   -- an entry that isn't passed is refused as the load refuses it
-  pub refuses : (st : State) (r : Refusal) → pass_of count st rw ro ≡ not_passed r → resume_of count st rw ro ≡ rejected r
+  pub refuses : (st : State) (r : Refusal) → pass_of count st rw ro ≡ Err r → resume_of count st rw ro ≡ Err r
   -- of the bytes not yet read, those of the entry itself pass it: the others needn't be there yet
   pub rw-entry : (n : ℕ) (st : State) → st.ro ≡ false → sized count rw ro ≡ true → WholeEntry n rw → pass_of count st (take n rw) [] ≡ pass_of count st rw ro
   pub ro-entry : (n : ℕ) (st : State) → st.ro ≡ true → sized count rw ro ≡ true → WholeEntry n ro → pass_of count st [] (take n ro) ≡ pass_of count st rw ro

@@ -1,8 +1,8 @@
 -- "Refusals by who causes them": what refuses a call, and the order. "Order: 9, 8, 1 to 7, 10, 11, then 12, or 13 before 14."; 02,
 -- note 7: 16 comes with 1 to 7, entry by entry. All but 13 and 14 follow from arguments, strings, count and bank size, and are said here
 -- once; 13 and 14 follow from a machine's state.
-use Rattle.std.specs.Prelude.{Bool, true, false, ◌&&◌, ◌||◌, not, cond, List, [], ◌∷◌, ℕ, ◌-◌, ltb, eqb}
-use Rattle.rules.specs.Words.{Refusal, plain, at_lane, Loaded, accepted, rejected, Call, select, write, read, byte_write, byte_read, publish, apply, Answer, refused}
+use Rattle.std.specs.Prelude.{Bool, true, false, ◌&&◌, ◌||◌, not, cond, List, [], ◌∷◌, ℕ, ◌-◌, ltb, eqb, Result, Err, Ok}
+use Rattle.rules.specs.Words.{Refusal, plain, at_lane, Loaded, Call, select, write, read, byte_write, byte_read, publish, apply, Answer}
 use Rattle.rules.specs.Numbers.{bit_of, lowest}
 use Rattle.rules.specs.Load.{Map, Reading}
 use Rattle.rules.specs.Place.{entry, is_set, is_staged, is_rw, is_lane, has_field, length_of}
@@ -24,9 +24,9 @@ first_of (passes ∷ l) = first_of l
 first_of (refuses r ∷ l) = refuses r
 
 -- a call's outcome: refused, "every lent byte keeps its content"; or what it does
-abbrev pub decide : {S : Type 0} → Verdict → S → Answer × S → Answer × S
+abbrev pub decide : {S : Type 0} → Verdict → S → Result Answer Refusal × S → Result Answer Refusal × S
 decide passes s done = done
-decide (refuses r) s done = (refused r, s)
+decide (refuses r) s done = (Err r, s)
 
 -- 9: "count not 1 to 15, or a string over 120"
 unfoldable pub check9 : Reading → Verdict
@@ -37,9 +37,9 @@ unfoldable pub check8 : ℕ → Verdict
 check8 size = refuse_if (ltb size bank_size) (plain 8)
 
 -- 16 and 1 to 7: "All calls read the strings anew and may give 1 to 7."
-abbrev pub refusal_of : Loaded → Verdict
-refusal_of (accepted a b c d) = passes
-refusal_of (rejected r) = refuses r
+abbrev pub refusal_of : Result Loaded Refusal → Verdict
+refusal_of (Ok l) = passes
+refusal_of (Err r) = refuses r
 
 unfoldable pub check_entries : Reading → Verdict
 check_entries r = refusal_of r.walked

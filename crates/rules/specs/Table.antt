@@ -1,7 +1,7 @@
 -- "the plain table": "a number for each set, entry, part and lane that the set holds (staged: RW only), and an AppSel for each
 -- staged set and lane". It "does each call as said, over its numbers, the two strings and the count only".
-use Rattle.std.specs.Prelude.{Bool, ◌&&◌, not, cond, List, [], ◌∷◌, ◌++◌, ℕ, suc, ◌*◌, ◌^◌, ℤ, pos, eqb}
-use Rattle.rules.specs.Words.{Entry, Call, select, write, read, byte_write, byte_read, publish, apply, Answer, says_yes, number}
+use Rattle.std.specs.Prelude.{Bool, ◌&&◌, not, cond, List, [], ◌∷◌, ◌++◌, ℕ, suc, ◌*◌, ◌^◌, ℤ, pos, eqb, Result}
+use Rattle.rules.specs.Words.{Entry, Call, select, write, read, byte_write, byte_read, publish, apply, Answer, says_yes, number, Refusal}
 use Rattle.rules.specs.Numbers.{cut, sum, any}
 use Rattle.rules.specs.Descriptor.{is_app, has_app}
 use Rattle.rules.specs.Load.{Map, Reading, read_of}
@@ -78,7 +78,7 @@ abbrev pub gives : Map → ℕ → ℕ → ℕ → ℕ → Bool
 gives m s' e p i = eqb s' 2 && (is_rw m e && holds m 2 e p i)
 
 -- what an accepted call answers, and the table after it
-unfoldable pub table_does : Map → Call → Table → Answer × Table
+unfoldable pub table_does : Map → Call → Table → Result Answer Refusal × Table
 -- "stores AppSel"
 table_does m (select s i a) t =
     (says_yes, record { numbers = t.numbers; apps = λ s' i'. cond (eqb s' s && eqb i' i) a (t.apps s' i') })
@@ -97,12 +97,12 @@ table_does m (apply s lanes) t =
     (says_yes, renumbered t λ s' e p i. cond (gives m s' e p i) (number_from (table_source m t s lanes e i) t s e p i) (t.numbers s' e p i))
 
 -- "A refused call changes none of its numbers; the refusal and its extras follow from the call's arguments and those three."
-abbrev pub table_call_on : Reading → Call → Table → Answer × Table
+abbrev pub table_call_on : Reading → Call → Table → Result Answer Refusal × Table
 table_call_on r c t = decide (order_of r (judge r.map c ++ table_plan r.map c t)) t (table_does r.map c t)
 
-unfoldable pub table_call : ℕ → List ℕ → List ℕ → Call → Table → Answer × Table
+unfoldable pub table_call : ℕ → List ℕ → List ℕ → Call → Table → Result Answer Refusal × Table
 table_call count rw ro c t = table_call_on (read_of count rw ro) c t
 
 -- what the table makes of each thing that a list holds
-unfoldable pub table_makes : ℕ → List ℕ → List ℕ → Command → Table → Answer × Table
+unfoldable pub table_makes : ℕ → List ℕ → List ℕ → Command → Table → Result Answer Refusal × Table
 table_makes count rw ro (call c) t = table_call count rw ro c t

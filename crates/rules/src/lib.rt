@@ -62,13 +62,6 @@ pub struct Entry {
     pub offset: usize,
 }
 
-// One entry's decode: the entry, or the number of the first check that it fails.
-#[derive(Clone, Copy)]
-pub enum Decoded {
-    Entry(Entry),
-    Refused(usize),
-}
-
 // What a walk of the strings keeps after an entry: whether it is in the RO string, whether a media-side table entry has been passed, how many
 // entries of this string have been, how many stand before this string, the sum of all MemoryLengths passed and, in the RO string, the staged length.
 #[derive(Clone, Copy)]
@@ -81,31 +74,20 @@ pub struct State {
     pub staged: u16,
 }
 
-// A walk of one string: the state at its end, or the first refusal.
+// What the load of both strings, and fresh, answer: both entry counts, staged and active length.
 #[derive(Clone, Copy)]
-pub enum Walked {
-    Ended(State),
-    Refused(Refusal),
+pub struct Loaded {
+    pub rw_count: usize,
+    pub ro_count: usize,
+    pub staged_length: usize,
+    pub active_length: usize,
 }
 
-// The load of both strings, and fresh: both entry counts, staged and active length.
+// One entry of a load that is made entry by entry: the state after it, and its Length.
 #[derive(Clone, Copy)]
-pub enum Loaded {
-    Accepted {
-        rw_count: usize,
-        ro_count: usize,
-        staged_length: usize,
-        active_length: usize,
-    },
-    Refused(Refusal),
-}
-
-// One entry of a load that is made entry by entry: the state after it and its Length; the end, where no byte is left; or its refusal.
-#[derive(Clone, Copy)]
-pub enum Passed {
-    Past(State, usize),
-    End,
-    Refused(Refusal),
+pub struct Passed {
+    pub state: State,
+    pub length: usize,
 }
 
 // The seven calls of demand 3, with any numbers.
@@ -150,47 +132,41 @@ pub enum Call {
     },
 }
 
-// The answer of these calls, of weight, and of the call beside the entry call: "An accepted call without another answer
-// says yes."
+// The answer of these calls and of weight. "An accepted call without another answer says yes."
 #[derive(Clone, Copy)]
 pub enum Answer {
     Yes,
     Number(i64),
-    Refused(Refusal),
 }
 
 // Where a field lies: its offset in the set, the page and byte that Table 4-1 of OIF-CMIS-VCS-01.1 gives this offset (0 and 0 where it
 // gives none), and its lowest bit.
 #[derive(Clone, Copy)]
-pub enum Placed {
-    At {
-        offset: usize,
-        page: usize,
-        byte: usize,
-        bit: usize,
-    },
-    Refused(Refusal),
+pub struct Placed {
+    pub offset: usize,
+    pub page: usize,
+    pub byte: usize,
+    pub bit: usize,
 }
 
-// Whose a bit is, and the number of entries looked at.
+// A field: its entry, part and lane.
 #[derive(Clone, Copy)]
-pub enum Owned {
-    Field {
-        entry: usize,
-        part: usize,
-        lane: usize,
-        looked: usize,
-    },
-    Gap {
-        looked: usize,
-    },
-    Refused(Refusal),
+pub struct Field {
+    pub entry: usize,
+    pub part: usize,
+    pub lane: usize,
 }
 
-// What a reader takes: the next entry's start and length, the end, or a refusal.
+// The field that a bit belongs to, none in a gap, and the number of entries looked at.
 #[derive(Clone, Copy)]
-pub enum Taken {
-    Part { start: usize, length: usize },
-    End,
-    Refused(Refusal),
+pub struct Owned {
+    pub field: Option<Field>,
+    pub looked: usize,
+}
+
+// An entry that a reader takes: its start and length.
+#[derive(Clone, Copy)]
+pub struct Taken {
+    pub start: usize,
+    pub length: usize,
 }

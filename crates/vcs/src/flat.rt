@@ -1,8 +1,10 @@
 // Flat answers, a number for each case of an answer, as C has them; and which call a flat call is.
 ghost use Rattle.std.specs.Prelude.{◌≡◌};
-ghost use Rattle.vcs.specs.Flat.{reason_of, flat_loaded, state_of, flag_of, flat_state, no_state, flat_owned, flat_answer, call_of};
+ghost use Rattle.vcs.specs.Flat.{reason_of, flat_loaded, state_of, flat_state, flat_passed, flat_entry, flat_placed, flat_owned, flat_answer, flat_taken, call_of};
 
-use rules::{Answer, Call, Loaded, Owned, Refusal, State};
+use descriptor::Located;
+use reader::Taking;
+use rules::{Answer, Call, Loaded, Owned, Passed, Placed, Refusal, State};
 
 // A refusal: its number, and the entry (1 to 7, 16) or the lane (13, 14) that it names, else 0. Number 0: accepted.
 #[derive(Clone, Copy)]
@@ -13,7 +15,7 @@ pub struct Reason {
 
 // vcs_loaded
 #[repr(C)]
-#[derive(Clone, Copy)]
+#[derive(Clone, Copy, Default)]
 pub struct FlatLoaded {
     pub refusal: usize,
     pub at: usize,
@@ -25,7 +27,7 @@ pub struct FlatLoaded {
 
 // vcs_state
 #[repr(C)]
-#[derive(Clone, Copy)]
+#[derive(Clone, Copy, Default)]
 pub struct FlatState {
     pub string: u8,
     pub media: u8,
@@ -37,7 +39,7 @@ pub struct FlatState {
 
 // vcs_passed
 #[repr(C)]
-#[derive(Clone, Copy)]
+#[derive(Clone, Copy, Default)]
 pub struct FlatPassed {
     pub refusal: usize,
     pub at: usize,
@@ -48,7 +50,7 @@ pub struct FlatPassed {
 
 // vcs_located
 #[repr(C)]
-#[derive(Clone, Copy)]
+#[derive(Clone, Copy, Default)]
 pub struct FlatEntry {
     pub refusal: usize,
     pub at: usize,
@@ -60,7 +62,7 @@ pub struct FlatEntry {
 
 // vcs_placed
 #[repr(C)]
-#[derive(Clone, Copy)]
+#[derive(Clone, Copy, Default)]
 pub struct FlatPlaced {
     pub refusal: usize,
     pub at: usize,
@@ -72,7 +74,7 @@ pub struct FlatPlaced {
 
 // vcs_owned
 #[repr(C)]
-#[derive(Clone, Copy)]
+#[derive(Clone, Copy, Default)]
 pub struct FlatOwned {
     pub refusal: usize,
     pub at: usize,
@@ -85,7 +87,7 @@ pub struct FlatOwned {
 
 // vcs_answer
 #[repr(C)]
-#[derive(Clone, Copy)]
+#[derive(Clone, Copy, Default)]
 pub struct FlatAnswer {
     pub refusal: usize,
     pub at: usize,
@@ -94,7 +96,7 @@ pub struct FlatAnswer {
 
 // vcs_taken
 #[repr(C)]
-#[derive(Clone, Copy)]
+#[derive(Clone, Copy, Default)]
 pub struct FlatTaken {
     pub refusal: usize,
     pub end: usize,
@@ -119,209 +121,271 @@ pub struct FlatCall {
     pub lanes: u8,
 }
 
-pub fn reason_of(r: Refusal) -> Reason
-    ensures { result ≡ reason_of r }
-{
-    match r {
-        Refusal::Plain(number) => Reason { number, at: 0 },
-        Refusal::AtEntry(number, entry) => Reason { number, at: entry },
-        Refusal::AtLane(number, lane) => Reason { number, at: lane },
+impl From<Refusal> for Reason {
+    ghost from_gives = { λ x y. y ≡ reason_of x };
+
+    fn from(r: Refusal) -> Reason {
+        match r {
+            Refusal::Plain(number) => Reason { number, at: 0 },
+            Refusal::AtEntry(number, entry) => Reason { number, at: entry },
+            Refusal::AtLane(number, lane) => Reason { number, at: lane },
+        }
     }
 }
 
-pub fn flat_loaded(l: Loaded) -> FlatLoaded
-    ensures { result ≡ flat_loaded l }
-{
-    match l {
-        Loaded::Accepted {
-            rw_count,
-            ro_count,
-            staged_length,
-            active_length,
-        } => FlatLoaded {
-            refusal: 0,
-            at: 0,
-            rw_count: rw_count,
-            ro_count: ro_count,
-            staged: staged_length,
-            active: active_length,
-        },
-        Loaded::Refused(r) => {
-            let why = reason_of(r);
-            FlatLoaded {
-                refusal: why.number,
-                at: why.at,
-                rw_count: 0,
-                ro_count: 0,
-                staged: 0,
-                active: 0,
+impl From<Result<Loaded, Refusal>> for FlatLoaded {
+    ghost from_gives = { λ x y. y ≡ flat_loaded x };
+
+    fn from(answer: Result<Loaded, Refusal>) -> FlatLoaded {
+        match answer {
+            Ok(l) => FlatLoaded {
+                rw_count: l.rw_count,
+                ro_count: l.ro_count,
+                staged: l.staged_length,
+                active: l.active_length,
+                ..FlatLoaded::default()
+            },
+            Err(r) => {
+                let why = Reason::from(r);
+                FlatLoaded {
+                    refusal: why.number,
+                    at: why.at,
+                    ..FlatLoaded::default()
+                }
             }
         }
     }
 }
 
 // A flag is any number but 0, and is given as 1.
-pub fn state_of(f: FlatState) -> State
-    ensures { result ≡ state_of f }
-{
-    State {
-        ro: 0 < f.string,
-        media: 0 < f.media,
-        entries: f.entries,
-        before: f.before,
-        sum: f.sum,
-        staged: f.staged,
+impl From<FlatState> for State {
+    ghost from_gives = { λ x y. y ≡ state_of x };
+
+    fn from(f: FlatState) -> State {
+        State {
+            ro: 0 < f.string,
+            media: 0 < f.media,
+            entries: f.entries,
+            before: f.before,
+            sum: f.sum,
+            staged: f.staged,
+        }
     }
 }
 
-fn flag(b: bool) -> u8
-    ensures { result ≡ flag_of b }
-{
-    if b {
-        return 1;
-    }
-    0
-}
+impl From<State> for FlatState {
+    ghost from_gives = { λ x y. y ≡ flat_state x };
 
-pub fn flat_state(st: State) -> FlatState
-    ensures { result ≡ flat_state st }
-{
-    let string = flag(st.ro);
-    let media = flag(st.media);
-    FlatState {
-        string,
-        media,
-        entries: st.entries,
-        before: st.before,
-        sum: st.sum,
-        staged: st.staged,
+    fn from(st: State) -> FlatState {
+        FlatState {
+            string: st.ro as u8,
+            media: st.media as u8,
+            entries: st.entries,
+            before: st.before,
+            sum: st.sum,
+            staged: st.staged,
+        }
     }
 }
 
-pub fn no_state() -> FlatState
-    ensures { result ≡ no_state }
-{
-    FlatState {
-        string: 0,
-        media: 0,
-        entries: 0,
-        before: 0,
-        sum: 0,
-        staged: 0,
-    }
-}
+impl From<Result<Option<Passed>, Refusal>> for FlatPassed {
+    ghost from_gives = { λ x y. y ≡ flat_passed x };
 
-pub fn flat_owned(o: Owned) -> FlatOwned
-    ensures { result ≡ flat_owned o }
-{
-    match o {
-        Owned::Field {
-            entry,
-            part,
-            lane,
-            looked,
-        } => FlatOwned {
-            refusal: 0,
-            at: 0,
-            gap: 0,
-            entry,
-            part,
-            lane,
-            looked,
-        },
-        Owned::Gap { looked } => FlatOwned {
-            refusal: 0,
-            at: 0,
-            gap: 1,
-            entry: 0,
-            part: 0,
-            lane: 0,
-            looked,
-        },
-        Owned::Refused(r) => {
-            let why = reason_of(r);
-            FlatOwned {
-                refusal: why.number,
-                at: why.at,
-                gap: 0,
-                entry: 0,
-                part: 0,
-                lane: 0,
-                looked: 0,
+    fn from(answer: Result<Option<Passed>, Refusal>) -> FlatPassed {
+        match answer {
+            Ok(Some(passed)) => FlatPassed {
+                length: passed.length,
+                state: FlatState::from(passed.state),
+                ..FlatPassed::default()
+            },
+            Ok(None) => FlatPassed {
+                ended: 1,
+                ..FlatPassed::default()
+            },
+            Err(r) => {
+                let why = Reason::from(r);
+                FlatPassed {
+                    refusal: why.number,
+                    at: why.at,
+                    ..FlatPassed::default()
+                }
             }
         }
     }
 }
 
-pub fn flat_answer(a: Answer) -> FlatAnswer
-    ensures { result ≡ flat_answer a }
-{
-    match a {
-        Answer::Yes => FlatAnswer {
-            refusal: 0,
-            at: 0,
-            number: 0,
-        },
-        Answer::Number(number) => FlatAnswer {
-            refusal: 0,
-            at: 0,
-            number,
-        },
-        Answer::Refused(r) => {
-            let why = reason_of(r);
-            FlatAnswer {
-                refusal: why.number,
-                at: why.at,
-                number: 0,
+impl From<Result<Located, Refusal>> for FlatEntry {
+    ghost from_gives = { λ x y. y ≡ flat_entry x };
+
+    fn from(answer: Result<Located, Refusal>) -> FlatEntry {
+        match answer {
+            Ok(found) => FlatEntry {
+                string: found.ro as usize,
+                start: found.start,
+                length: found.length,
+                offset: found.offset,
+                ..FlatEntry::default()
+            },
+            Err(r) => {
+                let why = Reason::from(r);
+                FlatEntry {
+                    refusal: why.number,
+                    at: why.at,
+                    ..FlatEntry::default()
+                }
             }
+        }
+    }
+}
+
+impl From<Result<Placed, Refusal>> for FlatPlaced {
+    ghost from_gives = { λ x y. y ≡ flat_placed x };
+
+    fn from(answer: Result<Placed, Refusal>) -> FlatPlaced {
+        match answer {
+            Ok(placed) => FlatPlaced {
+                offset: placed.offset,
+                page: placed.page,
+                byte: placed.byte,
+                bit: placed.bit,
+                ..FlatPlaced::default()
+            },
+            Err(r) => {
+                let why = Reason::from(r);
+                FlatPlaced {
+                    refusal: why.number,
+                    at: why.at,
+                    ..FlatPlaced::default()
+                }
+            }
+        }
+    }
+}
+
+impl From<Result<Owned, Refusal>> for FlatOwned {
+    ghost from_gives = { λ x y. y ≡ flat_owned x };
+
+    fn from(answer: Result<Owned, Refusal>) -> FlatOwned {
+        match answer {
+            Ok(owned) => match owned.field {
+                Some(field) => FlatOwned {
+                    entry: field.entry,
+                    part: field.part,
+                    lane: field.lane,
+                    looked: owned.looked,
+                    ..FlatOwned::default()
+                },
+                None => FlatOwned {
+                    gap: 1,
+                    looked: owned.looked,
+                    ..FlatOwned::default()
+                },
+            },
+            Err(refusal) => {
+                let why = Reason::from(refusal);
+                FlatOwned {
+                    refusal: why.number,
+                    at: why.at,
+                    ..FlatOwned::default()
+                }
+            }
+        }
+    }
+}
+
+impl From<Result<Answer, Refusal>> for FlatAnswer {
+    ghost from_gives = { λ x y. y ≡ flat_answer x };
+
+    fn from(answer: Result<Answer, Refusal>) -> FlatAnswer {
+        match answer {
+            Ok(Answer::Number(number)) => FlatAnswer {
+                number,
+                ..FlatAnswer::default()
+            },
+            Ok(Answer::Yes) => FlatAnswer::default(),
+            Err(r) => {
+                let why = Reason::from(r);
+                FlatAnswer {
+                    refusal: why.number,
+                    at: why.at,
+                    ..FlatAnswer::default()
+                }
+            }
+        }
+    }
+}
+
+impl From<Taking> for FlatTaken {
+    ghost from_gives = { λ x y. y ≡ flat_taken x.taken x.at };
+
+    fn from(taking: Taking) -> FlatTaken {
+        let position = taking.at;
+        match taking.taken {
+            Ok(Some(entry)) => FlatTaken {
+                start: entry.start,
+                length: entry.length,
+                position,
+                ..FlatTaken::default()
+            },
+            Ok(None) => FlatTaken {
+                end: 1,
+                position,
+                ..FlatTaken::default()
+            },
+            Err(r) => FlatTaken {
+                refusal: Reason::from(r).number,
+                position,
+                ..FlatTaken::default()
+            },
         }
     }
 }
 
 // A call by its kind. A kind above 6 is apply on set 3: refused with 10, after all that comes before 10.
-#[tactic(auto, unfolding(crate::specs::Flat::call_of))]
-pub fn call_of(c: FlatCall) -> Call
-    ensures { result ≡ call_of c }
-{
-    let kind = c.kind;
-    match kind {
-        0 => Call::Select {
-            set: c.set,
-            lane: c.lane,
-            app: c.app,
-        },
-        1 => Call::Write {
-            set: c.set,
-            entry: c.entry,
-            part: c.part,
-            lane: c.lane,
-            value: c.value,
-        },
-        2 => Call::Read {
-            set: c.set,
-            entry: c.entry,
-            part: c.part,
-            lane: c.lane,
-        },
-        3 => Call::ByteWrite {
-            set: c.set,
-            offset: c.offset,
-            byte: c.byte,
-        },
-        4 => Call::ByteRead {
-            set: c.set,
-            offset: c.offset,
-        },
-        5 => Call::Publish {
-            entry: c.entry,
-            part: c.part,
-            lane: c.lane,
-            value: c.value,
-        },
-        6 => Call::Apply {
-            set: c.set,
-            lanes: c.lanes,
-        },
-        _ => Call::Apply { set: 3, lanes: 0 },
+impl From<FlatCall> for Call {
+    ghost from_gives = { λ x y. y ≡ call_of x };
+
+    #[tactic(auto, unfolding(crate::specs::Flat::call_of))]
+    fn from(c: FlatCall) -> Call {
+        match c.kind {
+            0 => Call::Select {
+                set: c.set,
+                lane: c.lane,
+                app: c.app,
+            },
+            1 => Call::Write {
+                set: c.set,
+                entry: c.entry,
+                part: c.part,
+                lane: c.lane,
+                value: c.value,
+            },
+            2 => Call::Read {
+                set: c.set,
+                entry: c.entry,
+                part: c.part,
+                lane: c.lane,
+            },
+            3 => Call::ByteWrite {
+                set: c.set,
+                offset: c.offset,
+                byte: c.byte,
+            },
+            4 => Call::ByteRead {
+                set: c.set,
+                offset: c.offset,
+            },
+            5 => Call::Publish {
+                entry: c.entry,
+                part: c.part,
+                lane: c.lane,
+                value: c.value,
+            },
+            6 => Call::Apply {
+                set: c.set,
+                lanes: c.lanes,
+            },
+            _ => Call::Apply { set: 3, lanes: 0 },
+        }
     }
 }

@@ -12,9 +12,6 @@ ghost use Rattle.vcs.specs.Flat.{flat_loaded, state_of, flat_passed, flat_entry,
 
 mod flat; // flat answers
 
-use crate::flat::{
-    call_of, flat_answer, flat_loaded, flat_owned, flat_state, no_state, reason_of, state_of,
-};
 pub use crate::flat::{
     FlatAnswer, FlatCall, FlatEntry, FlatLoaded, FlatOwned, FlatPassed, FlatPlaced, FlatState,
     FlatTaken, Reason,
@@ -22,95 +19,37 @@ pub use crate::flat::{
 use control_set::{
     apply, byte_read, byte_write, fresh, perform, publish, read, select, weight, write,
 };
-use descriptor::{Located, load, locate, pass, resume};
+use descriptor::{load, locate, pass, resume};
 use placement::{owner, owner_at, place};
 use reader::take_from;
-use rules::{Call, Passed, Placed, Taken};
+use rules::{Call, State};
 
 // The load: both entry counts, staged and active length.
 pub fn vcs_load(count: usize, rw: &[u8], ro: &[u8]) -> FlatLoaded
     ensures { result ≡ flat_loaded (load_of count rw.now ro.now) }
 {
-    flat_loaded(load(count, rw, ro))
+    FlatLoaded::from(load(count, rw, ro))
 }
 
 // One entry of a load that is made entry by entry: its length and the state after it, or the end (1).
 pub fn vcs_pass(count: usize, rw: &[u8], ro: &[u8], state: FlatState) -> FlatPassed
     ensures { result ≡ flat_passed (pass_of count (state_of state) rw.now ro.now) }
 {
-    let passed = pass(count, rw, ro, state_of(state));
-    match passed {
-        Passed::Past(st, length) => FlatPassed {
-            refusal: 0,
-            at: 0,
-            ended: 0,
-            length,
-            state: flat_state(st),
-        },
-        Passed::End => FlatPassed {
-            refusal: 0,
-            at: 0,
-            ended: 1,
-            length: 0,
-            state: no_state(),
-        },
-        Passed::Refused(r) => {
-            let why = reason_of(r);
-            FlatPassed {
-                refusal: why.number,
-                at: why.at,
-                ended: 0,
-                length: 0,
-                state: no_state(),
-            }
-        }
-    }
+    FlatPassed::from(pass(count, rw, ro, State::from(state)))
 }
 
 // The load taken up again after an entry.
 pub fn vcs_resume(count: usize, rw: &[u8], ro: &[u8], state: FlatState) -> FlatLoaded
     ensures { result ≡ flat_loaded (resume_of count (state_of state) rw.now ro.now) }
 {
-    flat_loaded(resume(count, rw, ro, state_of(state)))
+    FlatLoaded::from(resume(count, rw, ro, State::from(state)))
 }
 
 // The entry call: which string (0 RW, 1 RO), start and length there, and the offset in a set.
 pub fn vcs_entry(count: usize, rw: &[u8], ro: &[u8], entry: usize) -> FlatEntry
     ensures { result ≡ flat_entry (located_of count rw.now ro.now entry) }
 {
-    let found = locate(count, rw, ro, entry);
-    match found {
-        Located::At {
-            ro: in_ro,
-            start,
-            length,
-            offset,
-        } => {
-            let mut string = 0;
-            if in_ro {
-                string = 1;
-            }
-            FlatEntry {
-                refusal: 0,
-                at: 0,
-                string,
-                start,
-                length,
-                offset,
-            }
-        }
-        Located::Refused(r) => {
-            let why = reason_of(r);
-            FlatEntry {
-                refusal: why.number,
-                at: why.at,
-                string: 0,
-                start: 0,
-                length: 0,
-                offset: 0,
-            }
-        }
-    }
+    FlatEntry::from(locate(count, rw, ro, entry))
 }
 
 // Place: a field's offset in a set, its page and byte, and its lowest bit there.
@@ -125,33 +64,7 @@ pub fn vcs_place(
 ) -> FlatPlaced
     ensures { result ≡ flat_placed (place_of count rw.now ro.now set entry part lane) }
 {
-    let placed = place(count, rw, ro, set, entry, part, lane);
-    match placed {
-        Placed::At {
-            offset,
-            page,
-            byte,
-            bit,
-        } => FlatPlaced {
-            refusal: 0,
-            at: 0,
-            offset,
-            page,
-            byte,
-            bit,
-        },
-        Placed::Refused(r) => {
-            let why = reason_of(r);
-            FlatPlaced {
-                refusal: why.number,
-                at: why.at,
-                offset: 0,
-                page: 0,
-                byte: 0,
-                bit: 0,
-            }
-        }
-    }
+    FlatPlaced::from(place(count, rw, ro, set, entry, part, lane))
 }
 
 // Owner: the field that a bit of a set belongs to, or gap (1), and the number of entries looked at.
@@ -165,7 +78,7 @@ pub fn vcs_owner(
 ) -> FlatOwned
     ensures { result ≡ flat_owned (owner_call count rw.now ro.now set offset bit) }
 {
-    flat_owned(owner(count, rw, ro, set, offset, bit))
+    FlatOwned::from(owner(count, rw, ro, set, offset, bit))
 }
 
 // Owner by an address: the same of a bit of a byte of a page.
@@ -180,7 +93,7 @@ pub fn vcs_owner_at(
 ) -> FlatOwned
     ensures { result ≡ flat_owned (owner_at_call count rw.now ro.now set page byte bit) }
 {
-    flat_owned(owner_at(count, rw, ro, set, page, byte, bit))
+    FlatOwned::from(owner_at(count, rw, ro, set, page, byte, bit))
 }
 
 // Fresh: the bank cleared, and both entry counts, staged and active length.
@@ -188,7 +101,7 @@ pub fn vcs_fresh(count: usize, rw: &[u8], ro: &[u8], bank: &mut [u8]) -> FlatLoa
     ensures answer { result ≡ flat_loaded (fresh_call count rw.now ro.now bank.old).0 }
     ensures after { bank.new ≡ (fresh_call count rw.now ro.now bank.old).1 }
 {
-    flat_loaded(fresh(count, rw, ro, bank))
+    FlatLoaded::from(fresh(count, rw, ro, bank))
 }
 
 // Select: the AppSel of a lane of a staged set is stored.
@@ -204,7 +117,7 @@ pub fn vcs_select(
     ensures answer { result ≡ flat_answer (bank_call count rw.now ro.now (Call.Select set lane app) bank.old).0 }
     ensures after { bank.new ≡ (bank_call count rw.now ro.now (Call.Select set lane app) bank.old).1 }
 {
-    flat_answer(select(count, rw, ro, bank, set, lane, app))
+    FlatAnswer::from(select(count, rw, ro, bank, set, lane, app))
 }
 
 // Write: an accepted value is stored in a field of a staged set.
@@ -222,7 +135,7 @@ pub fn vcs_write(
     ensures answer { result ≡ flat_answer (bank_call count rw.now ro.now (Call.Write set entry part lane value) bank.old).0 }
     ensures after { bank.new ≡ (bank_call count rw.now ro.now (Call.Write set entry part lane value) bank.old).1 }
 {
-    flat_answer(write(count, rw, ro, bank, set, entry, part, lane, value))
+    FlatAnswer::from(write(count, rw, ro, bank, set, entry, part, lane, value))
 }
 
 // Read: the number of a field.
@@ -238,7 +151,7 @@ pub fn vcs_read(
 ) -> FlatAnswer
     ensures answer { result ≡ flat_answer (bank_call count rw.now ro.now (Call.Read set entry part lane) bank.now).0 }
 {
-    flat_answer(read(count, rw, ro, bank, set, entry, part, lane))
+    FlatAnswer::from(read(count, rw, ro, bank, set, entry, part, lane))
 }
 
 // Byte write: each field in a byte of a staged set takes its own bits, and its gaps become 0.
@@ -254,7 +167,7 @@ pub fn vcs_byte_write(
     ensures answer { result ≡ flat_answer (bank_call count rw.now ro.now (Call.ByteWrite set offset value) bank.old).0 }
     ensures after { bank.new ≡ (bank_call count rw.now ro.now (Call.ByteWrite set offset value) bank.old).1 }
 {
-    flat_answer(byte_write(count, rw, ro, bank, set, offset, value))
+    FlatAnswer::from(byte_write(count, rw, ro, bank, set, offset, value))
 }
 
 // Byte read: a byte of a set, its gaps as 0.
@@ -268,7 +181,7 @@ pub fn vcs_byte_read(
 ) -> FlatAnswer
     ensures { result ≡ flat_answer (bank_call count rw.now ro.now (Call.ByteRead set offset) bank.now).0 }
 {
-    flat_answer(byte_read(count, rw, ro, bank, set, offset))
+    FlatAnswer::from(byte_read(count, rw, ro, bank, set, offset))
 }
 
 // Publish: an accepted value is stored in a field of an RO entry.
@@ -285,7 +198,7 @@ pub fn vcs_publish(
     ensures answer { result ≡ flat_answer (bank_call count rw.now ro.now (Call.Publish entry part lane value) bank.old).0 }
     ensures after { bank.new ≡ (bank_call count rw.now ro.now (Call.Publish entry part lane value) bank.old).1 }
 {
-    flat_answer(publish(count, rw, ro, bank, entry, part, lane, value))
+    FlatAnswer::from(publish(count, rw, ro, bank, entry, part, lane, value))
 }
 
 // Apply: the fields of the chosen lanes are copied from a staged set to the active set, all or nothing.
@@ -300,7 +213,7 @@ pub fn vcs_apply(
     ensures answer { result ≡ flat_answer (bank_call count rw.now ro.now (Call.Apply set lanes) bank.old).0 }
     ensures after { bank.new ≡ (bank_call count rw.now ro.now (Call.Apply set lanes) bank.old).1 }
 {
-    flat_answer(apply(count, rw, ro, bank, set, lanes))
+    FlatAnswer::from(apply(count, rw, ro, bank, set, lanes))
 }
 
 // Perform: any of the seven calls, by its kind.
@@ -314,7 +227,7 @@ pub fn vcs_perform(
     ensures answer { result ≡ flat_answer (bank_call count rw.now ro.now (call_of call) bank.old).0 }
     ensures after { bank.new ≡ (bank_call count rw.now ro.now (call_of call) bank.old).1 }
 {
-    flat_answer(perform(count, rw, ro, bank, call_of(call)))
+    FlatAnswer::from(perform(count, rw, ro, bank, Call::from(call)))
 }
 
 // Weight: the active number of a lane of a 12h entry, in thousandths.
@@ -328,39 +241,12 @@ pub fn vcs_weight(
 ) -> FlatAnswer
     ensures { result ≡ flat_answer (weight_call count rw.now ro.now bank.now entry lane) }
 {
-    flat_answer(weight(count, rw, ro, bank, entry, lane))
+    FlatAnswer::from(weight(count, rw, ro, bank, entry, lane))
 }
 
 // What a reader takes at a position: the next entry's start and length, or the end (1), and the position after it.
 pub fn vcs_take(count: usize, string: &[u8], position: usize) -> FlatTaken
     ensures { result ≡ flat_taken (take_of count string.now position) (moved_to (take_of count string.now position) position) }
 {
-    let x = take_from(count, string, position);
-    let taken = x.taken;
-    match taken {
-        Taken::Part { start, length } => FlatTaken {
-            refusal: 0,
-            end: 0,
-            start,
-            length,
-            position: x.at,
-        },
-        Taken::End => FlatTaken {
-            refusal: 0,
-            end: 1,
-            start: 0,
-            length: 0,
-            position: x.at,
-        },
-        Taken::Refused(r) => {
-            let why = reason_of(r);
-            FlatTaken {
-                refusal: why.number,
-                end: 0,
-                start: 0,
-                length: 0,
-                position: x.at,
-            }
-        }
-    }
+    FlatTaken::from(take_from(count, string, position))
 }

@@ -3,39 +3,40 @@ use Rattle.std.proofs.Common.{ℕ, ◌<◌, length, get_or, refl, sym, arith}
 use borrow.Author.Tests.{lt-ltb, le-ltb, eq-eqb, ne_eqb}
 use Rattle.rules.specs.declared.Call.{Call}
 use Rattle.rules.proofs.Refusals.Orders.{bank-order-refused}
+use Rattle.rules.proofs.Basics.Results.{handed-on}
 use Rattle.control_set.proofs.Outcomes.{answered, call-shut}
 use Rattle.control_set.proofs.Plans.{planned-none, no-bits}
 use Rattle.control_set.proofs.Applies.{walk, staged-most, staged-none, apply-asked, apply-10, apply-11, apply-13, apply-clear, apply-14, apply-done, apply-copied}
 use Rattle.control_set.proofs.apply_within.Goals as goal
-use Rattle.control_set.proofs.apply_within.Goals.{In-Accepted}
+use Rattle.control_set.proofs.apply_within.Goals.{In_ok-loaded}
 
 -- the bank before the copy
-bytes : (c : In-Accepted) → (j : ℕ) → get_or c.args.bank.now j 0 < 256
+bytes : (c : In_ok-loaded) → (j : ℕ) → get_or c.args.bank.now j 0 < 256
 bytes c j = (c.type_inv.bank j).fits
 
 pub returns-then-set-gt2 : goal.returns-then-set-gt2
 returns-then-set-gt2 c =
     let g = c.args in
-    answered (apply-10 g.count g.rw.now g.ro.now _ _ _ _ (sym c.in-Accepted.ensures) g.set g.lanes g.bank.now c.requires.1 (le-ltb g.set 3 (omega arith))) refl refl
+    answered (apply-10 g.count g.rw.now g.ro.now _ _ _ _ (sym c.in_ok-loaded.ensures) g.set g.lanes g.bank.now c.requires.1 (le-ltb g.set 3 (omega arith))) refl refl
 
 pub returns-then-set-eq2 : goal.returns-then-set-eq2
 returns-then-set-eq2 c =
     let g = c.args in
-    answered (apply-11 g.count g.rw.now g.ro.now _ _ _ _ (sym c.in-Accepted.ensures) g.set g.lanes g.bank.now c.requires.1 (lt-ltb g.set 3 (omega arith)) (eq-eqb _ 2 c.if-set-eq2.true)) refl refl
+    answered (apply-11 g.count g.rw.now g.ro.now _ _ _ _ (sym c.in_ok-loaded.ensures) g.set g.lanes g.bank.now c.requires.1 (lt-ltb g.set 3 (omega arith)) (eq-eqb _ 2 c.if-set-eq2.true)) refl refl
 
 pub returns-then-none-ne0 : goal.returns-then-none-ne0
 returns-then-none-ne0 c =
     let g = c.args in
-    answered (apply-13 g.count g.rw.now g.ro.now _ _ _ _ (sym c.in-Accepted.ensures) g.set g.lanes g.bank.now c.requires.1 (lt-ltb g.set 3 (omega arith)) (ne_eqb _ 2 c.if-set-eq2.false) c.lacking.result c.lacking.ensures c.lowest_lane-none.ensures c.if-none-ne0.true) refl refl
+    answered (apply-13 g.count g.rw.now g.ro.now _ _ _ _ (sym c.in_ok-loaded.ensures) g.set g.lanes g.bank.now c.requires.1 (lt-ltb g.set 3 (omega arith)) (ne_eqb _ 2 c.if-set-eq2.false) c.lacking.result c.lacking.ensures c.lowest_lane-none.ensures c.if-none-ne0.true) refl refl
 
 pub plan_all-requires : goal.plan_all-requires
 plan_all-requires c =
     let g = c.args in
     record {
       walk = (
-        walk g.count g.rw.now g.ro.now _ _ _ _ (sym c.in-Accepted.ensures) (λ i. (c.type_inv.rw i).fits),
-        apply-asked g.count g.rw.now g.ro.now _ _ _ _ (sym c.in-Accepted.ensures) g.set g.lanes g.bank.now c.requires.1 (omega arith),
-        apply-clear g.count g.rw.now g.ro.now _ _ _ _ (sym c.in-Accepted.ensures) g.set g.lanes g.bank.now c.requires.1 (lt-ltb g.set 3 (omega arith)) (ne_eqb _ 2 c.if-set-eq2.false) c.lacking.result c.lacking.ensures c.lowest_lane-none.ensures c.if-none-ne0.false,
+        walk g.count g.rw.now g.ro.now _ _ _ _ (sym c.in_ok-loaded.ensures) (λ i. (c.type_inv.rw i).fits),
+        apply-asked g.count g.rw.now g.ro.now _ _ _ _ (sym c.in_ok-loaded.ensures) g.set g.lanes g.bank.now c.requires.1 (omega arith),
+        apply-clear g.count g.rw.now g.ro.now _ _ _ _ (sym c.in_ok-loaded.ensures) g.set g.lanes g.bank.now c.requires.1 (lt-ltb g.set 3 (omega arith)) (ne_eqb _ 2 c.if-set-eq2.false) c.lacking.result c.lacking.ensures c.lowest_lane-none.ensures c.if-none-ne0.false,
       );
       planned = planned-none _ _ _ _ refl (no-bits 264);
     }
@@ -44,23 +45,23 @@ pub copy_planned-requires : goal.copy_planned-requires
 copy_planned-requires c =
     let g = c.args in
     record {
-      set = (omega arith, staged-most g.count g.rw.now g.ro.now _ _ _ _ (sym c.in-Accepted.ensures), c.requires.1);
-      none = staged-none g.count g.rw.now g.ro.now _ _ _ _ (sym c.in-Accepted.ensures) c.plan_all.ensures.after;
+      set = (omega arith, staged-most g.count g.rw.now g.ro.now _ _ _ _ (sym c.in_ok-loaded.ensures), c.requires.1);
+      none = staged-none g.count g.rw.now g.ro.now _ _ _ _ (sym c.in_ok-loaded.ensures) c.plan_all.ensures.after;
     }
 
 pub returns-then-bad-ne0 : goal.returns-then-bad-ne0
 returns-then-bad-ne0 c =
     let g = c.args in
-    answered (apply-14 g.count g.rw.now g.ro.now _ _ _ _ (sym c.in-Accepted.ensures) g.set g.lanes g.bank.now c.requires.1 (lt-ltb g.set 3 (omega arith)) (ne_eqb _ 2 c.if-set-eq2.false) c.lacking.result c.lacking.ensures c.lowest_lane-none.ensures c.if-none-ne0.false c.plan_all.result c.plan_all.ensures.refused c.lowest_lane-bad.ensures c.if-bad-ne0.true) refl refl
+    answered (apply-14 g.count g.rw.now g.ro.now _ _ _ _ (sym c.in_ok-loaded.ensures) g.set g.lanes g.bank.now c.requires.1 (lt-ltb g.set 3 (omega arith)) (ne_eqb _ 2 c.if-set-eq2.false) c.lacking.result c.lacking.ensures c.lowest_lane-none.ensures c.if-none-ne0.false c.plan_all.result c.plan_all.ensures.refused c.lowest_lane-bad.ensures c.if-bad-ne0.true) refl refl
 
-pub returns-in-Refused : goal.returns-in-Refused
-returns-in-Refused c =
+pub returns-in_err-loaded : goal.returns-in_err-loaded
+returns-in_err-loaded c =
     let g = c.args in
     answered (call-shut g.count g.rw.now g.ro.now (Call.Apply g.set g.lanes) g.bank.now _
-    (λ rest. bank-order-refused g.count g.rw.now g.ro.now _ c.requires.0 (sym c.in-Refused.ensures) (length g.bank.now) rest c.requires.1)) refl refl
+    (λ rest. bank-order-refused g.count g.rw.now g.ro.now _ c.requires.0 (sym c.in_err-loaded.ensures) (length g.bank.now) rest c.requires.1)) (handed-on _ c.from_residual.ensures.1) refl
 
-pub returns-else-bad-ne0 : goal.returns-else-bad-ne0
-returns-else-bad-ne0 c =
+pub returns : goal.returns
+returns c =
     let g = c.args in
-    answered (apply-done g.count g.rw.now g.ro.now _ _ _ _ (sym c.in-Accepted.ensures) g.set g.lanes g.bank.now c.requires.1 (lt-ltb g.set 3 (omega arith)) (ne_eqb _ 2 c.if-set-eq2.false) c.lacking.result c.lacking.ensures c.lowest_lane-none.ensures c.if-none-ne0.false c.plan_all.result c.plan_all.ensures.refused c.lowest_lane-bad.ensures c.if-bad-ne0.false) refl
-    (apply-copied g.count g.rw.now g.ro.now _ _ _ _ (sym c.in-Accepted.ensures) g.set g.lanes g.bank.now (λ j _. bytes (goal.at.returns-else-bad-ne0 c).In-Accepted j) c.plan_all.ensures.after c.copy_planned.ensures c.requires.1)
+    answered (apply-done g.count g.rw.now g.ro.now _ _ _ _ (sym c.in_ok-loaded.ensures) g.set g.lanes g.bank.now c.requires.1 (lt-ltb g.set 3 (omega arith)) (ne_eqb _ 2 c.if-set-eq2.false) c.lacking.result c.lacking.ensures c.lowest_lane-none.ensures c.if-none-ne0.false c.plan_all.result c.plan_all.ensures.refused c.lowest_lane-bad.ensures c.if-bad-ne0.false) refl
+    (apply-copied g.count g.rw.now g.ro.now _ _ _ _ (sym c.in_ok-loaded.ensures) g.set g.lanes g.bank.now (λ j _. bytes (goal.at.returns c).In_ok-loaded j) c.plan_all.ensures.after c.copy_planned.ensures c.requires.1)

@@ -1,10 +1,11 @@
 -- `fresh` meets its contract: refused by the gate, or cleared with the load's numbers.
 use Rattle.std.proofs.Common.{refl}
+use Rattle.rules.proofs.Basics.Results.{handed-on}
 use Rattle.control_set.proofs.Outcomes.{answered, fresh-shut, fresh-open}
 use Rattle.control_set.proofs.fresh.Goals as goal
 
-pub returns-in-Refused : goal.returns-in-Refused
-returns-in-Refused c = let g = c.args in answered (fresh-shut g.count g.rw.now g.ro.now g.bank.now _ c.in-Refused.ensures) refl refl
+pub returns-in_err-loaded : goal.returns-in_err-loaded
+returns-in_err-loaded c = let g = c.args in answered (fresh-shut g.count g.rw.now g.ro.now g.bank.now _ c.in_err-loaded.ensures) (handed-on _ c.from_residual.ensures.1) refl
 
-pub returns-in-Open : goal.returns-in-Open
-returns-in-Open c = let g = c.args in answered (fresh-open g.count g.rw.now g.ro.now g.bank.now c.in-Open.ensures) refl c.clear.ensures
+pub returns : goal.returns
+returns c = let g = c.args in answered (fresh-open g.count g.rw.now g.ro.now g.bank.now c.in_ok-loaded.ensures) refl c.clear.ensures

@@ -6,44 +6,45 @@ use Rattle.rules.specs.Load.{map_of}
 use Rattle.rules.specs.Refuse.{exists, misdirected, unaccepted}
 use Rattle.rules.specs.Bank.{bank_plan, bank_does}
 use Rattle.rules.specs.Place.{Field}
+use Rattle.rules.proofs.Basics.Results.{handed-on}
 use Rattle.control_set.proofs.Outcomes.{answered, call-11}
 use Rattle.control_set.proofs.FieldCalls.{entered-opened, call-unfound, no-publish, publish-tested, publish-directed, publish-there}
 use Rattle.control_set.proofs.Stores.{storable, call-stores}
 use Rattle.control_set.proofs.publish.Goals as goal
-use Rattle.control_set.proofs.publish.Goals.{In-In, Else-not-f}
+use Rattle.control_set.proofs.publish.Goals.{In_ok-f, Else-not-f}
 
 -- what is passed: 10 and 11
-there : (c : In-In) → let g = c.args in exists (map_of g.count g.rw.now g.ro.now) (Call.Publish g.entry g.part g.lane g.value) ≡ true
-there c = let g = c.args in publish-tested g.count g.rw.now g.ro.now g.bank.now c.in-In.ensures g.value
+there : (c : In_ok-f) → let g = c.args in exists (map_of g.count g.rw.now g.ro.now) (Call.Publish g.entry g.part g.lane g.value) ≡ true
+there c = let g = c.args in publish-tested g.count g.rw.now g.ro.now g.bank.now c.in_ok-f.ensures g.value
 
 may : (c : Else-not-f) → let g = c.args in misdirected (map_of g.count g.rw.now g.ro.now) (Call.Publish g.entry g.part g.lane g.value) ≡ false
-may c = let g = c.args in publish-directed g.count g.rw.now g.ro.now g.bank.now c.in-In.ensures g.value ∙ c.if-not-f.false
+may c = let g = c.args in publish-directed g.count g.rw.now g.ro.now g.bank.now c.in_ok-f.ensures g.value ∙ c.if-not-f.false
 
 -- the field
-field : (c : In-In) → let g = c.args in Field (map_of g.count g.rw.now g.ro.now) 2 g.entry g.part g.lane
-field c = let g = c.args in publish-there g.count g.rw.now g.ro.now g.bank.now c.in-In.ensures
+field : (c : In_ok-f) → let g = c.args in Field (map_of g.count g.rw.now g.ro.now) 2 g.entry g.part g.lane
+field c = let g = c.args in publish-there g.count g.rw.now g.ro.now g.bank.now c.in_ok-f.ensures
 
-pub returns-in_default : goal.returns-in_default
-returns-in_default c =
+pub returns-in_err-f : goal.returns-in_err-f
+returns-in_err-f c =
     let g = c.args in
     answered
-    (call-unfound g.count g.rw.now g.ro.now g.bank.now g.entry g.part g.lane (Call.Publish g.entry g.part g.lane g.value) (λ l. no-publish g.count g.rw.now g.ro.now g.bank.now g.entry g.part g.lane l g.value) c.in_default.is c.admit_field-found.ensures)
-    c.refused.ensures
+    (call-unfound g.count g.rw.now g.ro.now g.bank.now g.entry g.part g.lane (Call.Publish g.entry g.part g.lane g.value) (λ l. no-publish g.count g.rw.now g.ro.now g.bank.now g.entry g.part g.lane l g.value) _ c.in_err-f.ensures)
+    (handed-on _ c.from_residual.ensures.1)
     refl
 
 pub returns-then-not-f : goal.returns-then-not-f
 returns-then-not-f c =
     let g = c.args in
-    let t = c.in-In.ensures in
+    let t = c.in_ok-f.ensures in
     answered
-    (call-11 g.count g.rw.now g.ro.now (Call.Publish g.entry g.part g.lane g.value) g.bank.now (entered-opened g.count g.rw.now g.ro.now g.bank.now t) (there (goal.at.returns-then-not-f c).In-In) (publish-directed g.count g.rw.now g.ro.now g.bank.now t g.value ∙ c.if-not-f.true))
+    (call-11 g.count g.rw.now g.ro.now (Call.Publish g.entry g.part g.lane g.value) g.bank.now (entered-opened g.count g.rw.now g.ro.now g.bank.now t) (there (goal.at.returns-then-not-f c).In_ok-f) (publish-directed g.count g.rw.now g.ro.now g.bank.now t g.value ∙ c.if-not-f.true))
     refl
     refl
 
 pub store-requires : goal.store-requires
 store-requires c =
     let g = c.args in
-    rw (to_z-of_z c.ranges.value) (storable g.count g.rw.now g.ro.now g.bank.now c.in-In.ensures (field (goal.at.store-requires c).In-In) g.value)
+    rw (to_z-of_z c.ranges.value) (storable g.count g.rw.now g.ro.now g.bank.now c.in_ok-f.ensures (field (goal.at.store-requires c).In_ok-f) g.value)
 
 pub returns-then-not-store : goal.returns-then-not-store
 unfolding unaccepted bank_plan bank_does
@@ -52,7 +53,7 @@ returns-then-not-store c =
     let at = goal.at.returns-then-not-store c in
     let no = rw (to_z-of_z c.ranges.value) at c.store.ensures.answer in
     answered
-    (call-stores g.count g.rw.now g.ro.now g.bank.now c.in-In.ensures (Call.Publish g.entry g.part g.lane g.value) 2 g.value (field at.In-In) (there at.In-In) (may at.Else-not-f) refl refl refl)
+    (call-stores g.count g.rw.now g.ro.now g.bank.now c.in_ok-f.ensures (Call.Publish g.entry g.part g.lane g.value) 2 g.value (field at.In_ok-f) (there at.In_ok-f) (may at.Else-not-f) refl refl refl)
     (rw (sym no ∙ c.if-not-store.true) refl)
     (rw (to_z-of_z c.ranges.value) at c.store.ensures.after)
 
@@ -63,6 +64,6 @@ returns c =
     let at = goal.at.returns c in
     let yes = rw (to_z-of_z c.ranges.value) at c.store.ensures.answer in
     answered
-    (call-stores g.count g.rw.now g.ro.now g.bank.now c.in-In.ensures (Call.Publish g.entry g.part g.lane g.value) 2 g.value (field at.In-In) (there at.In-In) (may at.Else-not-f) refl refl refl)
+    (call-stores g.count g.rw.now g.ro.now g.bank.now c.in_ok-f.ensures (Call.Publish g.entry g.part g.lane g.value) 2 g.value (field at.In_ok-f) (there at.In_ok-f) (may at.Else-not-f) refl refl refl)
     (rw (sym yes ∙ c.if-not-store.false) refl)
     (rw (to_z-of_z c.ranges.value) at c.store.ensures.after)

@@ -3,11 +3,12 @@ use Rattle.std.proofs.Common.{◌≡◌, true, false, refl, ap, ◌∙◌, w64}
 use mir.Facts.{to_z-of_z}
 use borrow.Author.Tests.{lt-ltb, le-ltb}
 use Rattle.rules.specs.declared.Call.{Call}
-use Rattle.rules.specs.declared.Answer.{Answer}
+use Rattle.rules.specs.Words.{number}
 use Rattle.rules.specs.Load.{map_of}
 use Rattle.rules.specs.Refuse.{exists, misdirected, unaccepted}
 use Rattle.rules.specs.Bank.{bank_plan, bank_does}
 use Rattle.rules.specs.Place.{Field}
+use Rattle.rules.proofs.Basics.Results.{handed-on}
 use Rattle.control_set.proofs.Outcomes.{answered, call-10, call-11, call-done}
 use Rattle.control_set.proofs.FieldCalls.{entered-opened, call-unfound, no-read, read-tested, read-directed, read-there, spot-there, number-there}
 use Rattle.control_set.proofs.read.Goals as goal
@@ -15,29 +16,29 @@ use Rattle.control_set.proofs.read.Goals.{Else-not-set, Else-set-f}
 
 -- what is passed: 10 and 11
 there : (c : Else-not-set) → let g = c.args in exists (map_of g.count g.rw.now g.ro.now) (Call.Read g.set g.entry g.part g.lane) ≡ true
-there c = let g = c.args in read-tested g.count g.rw.now g.ro.now g.bank.now c.in-In.ensures g.set ∙ lt-ltb _ _ c.if-not-set.false
+there c = let g = c.args in read-tested g.count g.rw.now g.ro.now g.bank.now c.in_ok-f.ensures g.set ∙ lt-ltb _ _ c.if-not-set.false
 
 may : (c : Else-set-f) → let g = c.args in misdirected (map_of g.count g.rw.now g.ro.now) (Call.Read g.set g.entry g.part g.lane) ≡ false
-may c = let g = c.args in read-directed g.count g.rw.now g.ro.now g.bank.now c.in-In.ensures g.set ∙ c.if-set-f.false
+may c = let g = c.args in read-directed g.count g.rw.now g.ro.now g.bank.now c.in_ok-f.ensures g.set ∙ c.if-set-f.false
 
 -- the field
 field : (c : Else-set-f) → let g = c.args in Field (map_of g.count g.rw.now g.ro.now) g.set g.entry g.part g.lane
-field c = let g = c.args in read-there g.count g.rw.now g.ro.now g.bank.now c.in-In.ensures g.set (lt-ltb _ _ c.if-not-set.false) c.if-set-f.false
+field c = let g = c.args in read-there g.count g.rw.now g.ro.now g.bank.now c.in_ok-f.ensures g.set (lt-ltb _ _ c.if-not-set.false) c.if-set-f.false
 
-pub returns-in_default : goal.returns-in_default
-returns-in_default c =
+pub returns-in_err-f : goal.returns-in_err-f
+returns-in_err-f c =
     let g = c.args in
     let h =
     answered
-    (call-unfound g.count g.rw.now g.ro.now g.bank.now g.entry g.part g.lane (Call.Read g.set g.entry g.part g.lane) (λ l. no-read g.count g.rw.now g.ro.now g.bank.now g.entry g.part g.lane l g.set) c.in_default.is c.admit_field-found.ensures)
-    c.refused.ensures
+    (call-unfound g.count g.rw.now g.ro.now g.bank.now g.entry g.part g.lane (Call.Read g.set g.entry g.part g.lane) (λ l. no-read g.count g.rw.now g.ro.now g.bank.now g.entry g.part g.lane l g.set) _ c.in_err-f.ensures)
+    (handed-on _ c.from_residual.ensures.1)
     refl
     in record { answer = h.answer }
 
 pub returns-then-not-set : goal.returns-then-not-set
 returns-then-not-set c =
     let g = c.args in
-    let t = c.in-In.ensures in
+    let t = c.in_ok-f.ensures in
     let h =
     answered
     (call-10 g.count g.rw.now g.ro.now (Call.Read g.set g.entry g.part g.lane) g.bank.now (entered-opened g.count g.rw.now g.ro.now g.bank.now t) (read-tested g.count g.rw.now g.ro.now g.bank.now t g.set ∙ le-ltb _ _ c.if-not-set.true))
@@ -48,7 +49,7 @@ returns-then-not-set c =
 pub returns-then-set-f : goal.returns-then-set-f
 returns-then-set-f c =
     let g = c.args in
-    let t = c.in-In.ensures in
+    let t = c.in_ok-f.ensures in
     let h =
     answered
     (call-11 g.count g.rw.now g.ro.now (Call.Read g.set g.entry g.part g.lane) g.bank.now (entered-opened g.count g.rw.now g.ro.now g.bank.now t) (there (goal.at.returns-then-set-f c).Else-not-set) (read-directed g.count g.rw.now g.ro.now g.bank.now t g.set ∙ c.if-set-f.true))
@@ -59,19 +60,19 @@ returns-then-set-f c =
 pub read_field-bits-requires : goal.read_field-bits-requires
 read_field-bits-requires c =
     let g = c.args in
-    spot-there g.count g.rw.now g.ro.now g.bank.now c.in-In.ensures (field (goal.at.read_field-bits-requires c).Else-set-f)
+    spot-there g.count g.rw.now g.ro.now g.bank.now c.in_ok-f.ensures (field (goal.at.read_field-bits-requires c).Else-set-f)
 
 pub returns : goal.returns
 unfolding unaccepted bank_plan bank_does
 returns c =
     let g = c.args in
     let at = goal.at.returns c in
-    let t = c.in-In.ensures in
+    let t = c.in_ok-f.ensures in
     let x = rw c.read_field-bits.ensures at c.number_of.ensures in
     let n = to_z-of_z {w = w64} (record { sfits = c.number_of.type_inv }) ∙ x ∙ number-there g.count g.rw.now g.ro.now g.bank.now t (field at.Else-set-f) in
     let h =
     answered
     (call-done g.count g.rw.now g.ro.now (Call.Read g.set g.entry g.part g.lane) g.bank.now (entered-opened g.count g.rw.now g.ro.now g.bank.now t) (there at.Else-not-set) (may at.Else-set-f) refl refl)
-    (ap Answer.Number n)
+    (ap number n)
     refl
     in record { answer = h.answer }

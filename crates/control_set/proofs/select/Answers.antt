@@ -5,6 +5,7 @@ use Rattle.rules.specs.declared.Call.{Call}
 use Rattle.rules.specs.Load.{map_of, map_within}
 use Rattle.rules.specs.Refuse.{exists, misdirected, unaccepted}
 use Rattle.rules.specs.Bank.{bank_plan, bank_does}
+use Rattle.rules.proofs.Basics.Results.{handed-on}
 use Rattle.control_set.proofs.Outcomes.{answered, count-top, call-shut, call-10, call-11, call-12, call-done}
 use Rattle.control_set.proofs.select.Goals as goal
 use Rattle.control_set.proofs.select.Goals.{Else-not-set-lane, Else-set-eq2, Else-count-app}
@@ -22,34 +23,34 @@ fine : (c : Else-count-app) → let g = c.args in unaccepted (map_of g.count g.r
 unfolding unaccepted map_within
 fine c = le-ltb _ _ c.if-count-app.false
 
-pub returns-in-Refused : goal.returns-in-Refused
-returns-in-Refused c =
+pub returns-in_err-admit : goal.returns-in_err-admit
+returns-in_err-admit c =
     let g = c.args in
-    answered (call-shut g.count g.rw.now g.ro.now (Call.Select g.set g.lane g.app) g.bank.now _ c.in-Refused.ensures) refl refl
+    answered (call-shut g.count g.rw.now g.ro.now (Call.Select g.set g.lane g.app) g.bank.now _ c.in_err-admit.ensures) (handed-on _ c.from_residual.ensures.1) refl
 
 pub returns-then-not-set-lane : goal.returns-then-not-set-lane
 unfolding exists
 returns-then-not-set-lane c =
     let g = c.args in
-    answered (call-10 g.count g.rw.now g.ro.now (Call.Select g.set g.lane g.app) g.bank.now c.in_default.ensures c.if-not-set-lane.true) refl refl
+    answered (call-10 g.count g.rw.now g.ro.now (Call.Select g.set g.lane g.app) g.bank.now c.in_ok-admit.ensures c.if-not-set-lane.true) refl refl
 
 pub returns-then-set-eq2 : goal.returns-then-set-eq2
 unfolding misdirected
 returns-then-set-eq2 c =
     let g = c.args in
-    answered (call-11 g.count g.rw.now g.ro.now (Call.Select g.set g.lane g.app) g.bank.now c.in_default.ensures (there (goal.at.returns-then-set-eq2 c).Else-not-set-lane) (eq-eqb _ _ c.if-set-eq2.true)) refl refl
+    answered (call-11 g.count g.rw.now g.ro.now (Call.Select g.set g.lane g.app) g.bank.now c.in_ok-admit.ensures (there (goal.at.returns-then-set-eq2 c).Else-not-set-lane) (eq-eqb _ _ c.if-set-eq2.true)) refl refl
 
 pub returns-then-count-app : goal.returns-then-count-app
 unfolding unaccepted map_within
 returns-then-count-app c =
     let g = c.args in
     let at = goal.at.returns-then-count-app c in
-    answered (call-12 g.count g.rw.now g.ro.now (Call.Select g.set g.lane g.app) g.bank.now c.in_default.ensures (there at.Else-not-set-lane) (may at.Else-set-eq2) (lt-ltb _ _ c.if-count-app.true)) refl refl
+    answered (call-12 g.count g.rw.now g.ro.now (Call.Select g.set g.lane g.app) g.bank.now c.in_ok-admit.ensures (there at.Else-not-set-lane) (may at.Else-set-eq2) (lt-ltb _ _ c.if-count-app.true)) refl refl
 
 pub overflow_cast-bank : goal.overflow_cast-bank
 overflow_cast-bank c =
     let g = c.args in
-    let l : g.count ≤ 15 = count-top g.count g.rw.now g.ro.now c.in_default.ensures.loads in
+    let l : g.count ≤ 15 = count-top g.count g.rw.now g.ro.now c.in_ok-admit.ensures.loads in
     omega arith
 
 pub returns : goal.returns
@@ -58,6 +59,6 @@ returns c =
     let g = c.args in
     let at = goal.at.returns c in
     answered
-    (call-done g.count g.rw.now g.ro.now (Call.Select g.set g.lane g.app) g.bank.now c.in_default.ensures (there at.Else-not-set-lane) (may at.Else-set-eq2) (fine at.Else-count-app) refl)
+    (call-done g.count g.rw.now g.ro.now (Call.Select g.set g.lane g.app) g.bank.now c.in_ok-admit.ensures (there at.Else-not-set-lane) (may at.Else-set-eq2) (fine at.Else-count-app) refl)
     refl
     (rw c.app_sel_at.ensures.0 refl)

@@ -7,6 +7,7 @@ use Rattle.rules.specs.Load.{map_of}
 use Rattle.rules.specs.Refuse.{exists, misdirected, unaccepted}
 use Rattle.rules.specs.Bank.{bank_plan, bank_does}
 use Rattle.rules.specs.Place.{Field}
+use Rattle.rules.proofs.Basics.Results.{handed-on}
 use Rattle.control_set.proofs.Outcomes.{answered, call-10, call-11}
 use Rattle.control_set.proofs.FieldCalls.{entered-opened, call-unfound, no-write, write-tested, write-directed, write-there}
 use Rattle.control_set.proofs.Stores.{storable, call-stores}
@@ -15,27 +16,27 @@ use Rattle.control_set.proofs.write.Goals.{Else-not-set, Else-set-f}
 
 -- what is passed: 10 and 11
 there : (c : Else-not-set) → let g = c.args in exists (map_of g.count g.rw.now g.ro.now) (Call.Write g.set g.entry g.part g.lane g.value) ≡ true
-there c = let g = c.args in write-tested g.count g.rw.now g.ro.now g.bank.now c.in-In.ensures g.set g.value ∙ lt-ltb _ _ c.if-not-set.false
+there c = let g = c.args in write-tested g.count g.rw.now g.ro.now g.bank.now c.in_ok-f.ensures g.set g.value ∙ lt-ltb _ _ c.if-not-set.false
 
 may : (c : Else-set-f) → let g = c.args in misdirected (map_of g.count g.rw.now g.ro.now) (Call.Write g.set g.entry g.part g.lane g.value) ≡ false
-may c = let g = c.args in write-directed g.count g.rw.now g.ro.now g.bank.now c.in-In.ensures g.set g.value ∙ c.if-set-f.false
+may c = let g = c.args in write-directed g.count g.rw.now g.ro.now g.bank.now c.in_ok-f.ensures g.set g.value ∙ c.if-set-f.false
 
 -- the field
 field : (c : Else-set-f) → let g = c.args in Field (map_of g.count g.rw.now g.ro.now) g.set g.entry g.part g.lane
-field c = let g = c.args in write-there g.count g.rw.now g.ro.now g.bank.now c.in-In.ensures g.set (lt-ltb _ _ c.if-not-set.false) c.if-set-f.false
+field c = let g = c.args in write-there g.count g.rw.now g.ro.now g.bank.now c.in_ok-f.ensures g.set (lt-ltb _ _ c.if-not-set.false) c.if-set-f.false
 
-pub returns-in_default : goal.returns-in_default
-returns-in_default c =
+pub returns-in_err-f : goal.returns-in_err-f
+returns-in_err-f c =
     let g = c.args in
     answered
-    (call-unfound g.count g.rw.now g.ro.now g.bank.now g.entry g.part g.lane (Call.Write g.set g.entry g.part g.lane g.value) (λ l. no-write g.count g.rw.now g.ro.now g.bank.now g.entry g.part g.lane l g.set g.value) c.in_default.is c.admit_field-found.ensures)
-    c.refused.ensures
+    (call-unfound g.count g.rw.now g.ro.now g.bank.now g.entry g.part g.lane (Call.Write g.set g.entry g.part g.lane g.value) (λ l. no-write g.count g.rw.now g.ro.now g.bank.now g.entry g.part g.lane l g.set g.value) _ c.in_err-f.ensures)
+    (handed-on _ c.from_residual.ensures.1)
     refl
 
 pub returns-then-not-set : goal.returns-then-not-set
 returns-then-not-set c =
     let g = c.args in
-    let t = c.in-In.ensures in
+    let t = c.in_ok-f.ensures in
     answered
     (call-10 g.count g.rw.now g.ro.now (Call.Write g.set g.entry g.part g.lane g.value) g.bank.now (entered-opened g.count g.rw.now g.ro.now g.bank.now t) (write-tested g.count g.rw.now g.ro.now g.bank.now t g.set g.value ∙ le-ltb _ _ c.if-not-set.true))
     refl
@@ -44,7 +45,7 @@ returns-then-not-set c =
 pub returns-then-set-f : goal.returns-then-set-f
 returns-then-set-f c =
     let g = c.args in
-    let t = c.in-In.ensures in
+    let t = c.in_ok-f.ensures in
     answered
     (call-11 g.count g.rw.now g.ro.now (Call.Write g.set g.entry g.part g.lane g.value) g.bank.now (entered-opened g.count g.rw.now g.ro.now g.bank.now t) (there (goal.at.returns-then-set-f c).Else-not-set) (write-directed g.count g.rw.now g.ro.now g.bank.now t g.set g.value ∙ c.if-set-f.true))
     refl
@@ -53,7 +54,7 @@ returns-then-set-f c =
 pub store-requires : goal.store-requires
 store-requires c =
     let g = c.args in
-    rw (to_z-of_z c.ranges.value) (storable g.count g.rw.now g.ro.now g.bank.now c.in-In.ensures (field (goal.at.store-requires c).Else-set-f) g.value)
+    rw (to_z-of_z c.ranges.value) (storable g.count g.rw.now g.ro.now g.bank.now c.in_ok-f.ensures (field (goal.at.store-requires c).Else-set-f) g.value)
 
 pub returns-then-not-store : goal.returns-then-not-store
 unfolding unaccepted bank_plan bank_does
@@ -62,7 +63,7 @@ returns-then-not-store c =
     let at = goal.at.returns-then-not-store c in
     let no = rw (to_z-of_z c.ranges.value) at c.store.ensures.answer in
     answered
-    (call-stores g.count g.rw.now g.ro.now g.bank.now c.in-In.ensures (Call.Write g.set g.entry g.part g.lane g.value) g.set g.value (field at.Else-set-f) (there at.Else-not-set) (may at.Else-set-f) refl refl refl)
+    (call-stores g.count g.rw.now g.ro.now g.bank.now c.in_ok-f.ensures (Call.Write g.set g.entry g.part g.lane g.value) g.set g.value (field at.Else-set-f) (there at.Else-not-set) (may at.Else-set-f) refl refl refl)
     (rw (sym no ∙ c.if-not-store.true) refl)
     (rw (to_z-of_z c.ranges.value) at c.store.ensures.after)
 
@@ -73,6 +74,6 @@ returns c =
     let at = goal.at.returns c in
     let yes = rw (to_z-of_z c.ranges.value) at c.store.ensures.answer in
     answered
-    (call-stores g.count g.rw.now g.ro.now g.bank.now c.in-In.ensures (Call.Write g.set g.entry g.part g.lane g.value) g.set g.value (field at.Else-set-f) (there at.Else-not-set) (may at.Else-set-f) refl refl refl)
+    (call-stores g.count g.rw.now g.ro.now g.bank.now c.in_ok-f.ensures (Call.Write g.set g.entry g.part g.lane g.value) g.set g.value (field at.Else-set-f) (there at.Else-not-set) (may at.Else-set-f) refl refl refl)
     (rw (sym yes ∙ c.if-not-store.false) refl)
     (rw (to_z-of_z c.ranges.value) at c.store.ensures.after)

@@ -4,14 +4,14 @@ use native.Mathlib.Nat.{add-sub_cancel_left}
 use Rattle.rules.specs.Beside.{entry_bytes}
 use Rattle.descriptor.proofs.Locates.{Span, located-empty, located-span}
 use Rattle.descriptor.proofs.entry_bytes.Goals as goal
-use Rattle.descriptor.proofs.entry_bytes.Goals.{In-At}
+use Rattle.descriptor.proofs.entry_bytes.Goals.{In-Ok}
 
 -- the entry's own bytes in the string that it stands in
-span : (c : In-At) →
+span : (c : In-Ok) →
     let g = c.args in
-    let x = c.in-At in
-    Span (cond x.in_ro g.ro.now g.rw.now) x.start x.length (entry_bytes g.count g.rw.now g.ro.now g.entry)
-span c = let g = c.args in located-span g.count g.rw.now g.ro.now g.entry _ _ _ _ (sym c.in-At.ensures)
+    let x = c.in-Ok.found in
+    Span (cond x.ro g.ro.now g.rw.now) x.start x.length (entry_bytes g.count g.rw.now g.ro.now g.entry)
+span c = let g = c.args in located-span g.count g.rw.now g.ro.now g.entry _ _ _ _ (sym c.in-Ok.ensures)
 
 -- one of the two strings has it
 either-has : (x : Bool) (l r : List ℕ) (n : ℕ) → n ≤ length (cond x l r) → (n ≤ length l) ⊎ (n ≤ length r)
@@ -26,20 +26,22 @@ pub returns-in_default : goal.returns-in_default
 returns-in_default c = let g = c.args in located-empty g.count g.rw.now g.ro.now g.entry _ (sym c.in_default.ensures)
 
 pub overflow_add-end : goal.overflow_add-end
-overflow_add-end c = ⊎_elim (λ h. omega arith) (λ h. omega arith) (either-has c.in-At.in_ro c.args.ro.now c.args.rw.now _ (span c).inside)
+overflow_add-end c =
+    let h = (span (goal.at.overflow_add-end c).In-Ok).inside in
+    ⊎_elim (λ h. omega arith) (λ h. omega arith) (either-has c.in-Ok.found.ro c.args.ro.now c.args.rw.now _ h)
 
-pub slice_bounds-result-end-then-in_ro : goal.slice_bounds-result-end-then-in_ro
-slice_bounds-result-end-then-in_ro c =
-    let h = span (goal.at.slice_bounds-result-end-then-in_ro c).In-At in
-    (rw c.if-in_ro.true at h).inside
+pub slice_bounds-result-end-then-found : goal.slice_bounds-result-end-then-found
+slice_bounds-result-end-then-found c =
+    let h = span (goal.at.slice_bounds-result-end-then-found c).In-Ok in
+    (rw c.if-found.true at h).inside
 
-pub returns-then-in_ro : goal.returns-then-in_ro
-returns-then-in_ro c = let h = span (goal.at.returns-then-in_ro c).In-At in cut (rw c.if-in_ro.true at h)
+pub returns-then-found : goal.returns-then-found
+returns-then-found c = let h = span (goal.at.returns-then-found c).In-Ok in cut (rw c.if-found.true at h)
 
 pub slice_bounds-result-end-2 : goal.slice_bounds-result-end-2
 slice_bounds-result-end-2 c =
-    let h = span (goal.at.slice_bounds-result-end-2 c).In-At in
-    (rw c.if-in_ro.false at h).inside
+    let h = span (goal.at.slice_bounds-result-end-2 c).In-Ok in
+    (rw c.if-found.false at h).inside
 
 pub returns : goal.returns
-returns c = let h = span (goal.at.returns c).In-At in cut (rw c.if-in_ro.false at h)
+returns c = let h = span (goal.at.returns c).In-Ok in cut (rw c.if-found.false at h)

@@ -2,68 +2,70 @@
 use Rattle.std.proofs.Common.{◌≤◌, ◌<◌, false, refl, sym, ◌∙◌, arith}
 use borrow.Author.Tests.{lt-ltb, le-ltb}
 use Rattle.rules.proofs.Place.PlaceCalls.{place-refused}
+use Rattle.rules.proofs.Basics.Results.{handed-on}
 use Rattle.descriptor.specs.Find.{InMap}
 use Rattle.descriptor.proofs.Finds.{found-refused, found-in}
 use Rattle.placement.proofs.Placing.{offset-small, width-small, asked, placing-10, placing-11, placing-at}
 use Rattle.placement.proofs.Small.{There, product-fits, part-fits, place-fits}
 use Rattle.placement.proofs.place.Goals as goal
-use Rattle.placement.proofs.place.Goals.{In-In}
+use Rattle.placement.proofs.place.Goals.{In_ok-f}
 
 -- the entry that was found, in what the match binds
-in-map : (c : In-In) → let g = c.args in InMap g.count g.rw.now g.ro.now g.entry g.part g.lane c.in-In.f
-in-map c = let g = c.args in found-in g.count g.rw.now g.ro.now false g.entry g.part g.lane refl _ (sym c.in-In.ensures)
+in-map : (c : In_ok-f) → let g = c.args in InMap g.count g.rw.now g.ro.now g.entry g.part g.lane c.in_ok-f.f
+in-map c = let g = c.args in found-in g.count g.rw.now g.ro.now false g.entry g.part g.lane refl _ (sym c.in_ok-f.ensures)
 
 -- the part and the lane are there; the width and the entry's offset are small
-there : (c : In-In) → There c.args.part c.args.lane
+there : (c : In_ok-f) → There c.args.part c.args.lane
 there c = let g = c.args in asked g.count g.rw.now g.ro.now (in-map c)
 
-narrow : (c : In-In) → c.in-In.f.width < 16
+narrow : (c : In_ok-f) → c.in_ok-f.f.width < 16
 narrow c = let g = c.args in width-small g.count g.rw.now g.ro.now (in-map c)
 
-offset : (c : In-In) → c.in-In.f.offset ≤ 256
+offset : (c : In_ok-f) → c.in_ok-f.f.offset ≤ 256
 offset c = let g = c.args in offset-small g.count g.rw.now g.ro.now (in-map c)
 
 pub returns-then-not-set : goal.returns-then-not-set
 returns-then-not-set c =
     let g = c.args in
-    placing-10 g.count g.rw.now g.ro.now (in-map (goal.at.returns-then-not-set c).In-In) g.set (le-ltb g.set 3 c.if-not-set.true)
+    placing-10 g.count g.rw.now g.ro.now (in-map (goal.at.returns-then-not-set c).In_ok-f) g.set (le-ltb g.set 3 c.if-not-set.true)
 
 pub returns-then-set-f : goal.returns-then-set-f
 returns-then-set-f c =
     let g = c.args in
-    placing-11 g.count g.rw.now g.ro.now (in-map (goal.at.returns-then-set-f c).In-In) g.set (lt-ltb g.set 3 c.if-not-set.false) c.if-set-f.true
+    placing-11 g.count g.rw.now g.ro.now (in-map (goal.at.returns-then-set-f c).In_ok-f) g.set (lt-ltb g.set 3 c.if-not-set.false) c.if-set-f.true
 
 pub overflow_sub-first : goal.overflow_sub-first
-overflow_sub-first c = omega (arith, there (goal.at.overflow_sub-first c).In-In)
+overflow_sub-first c = omega (arith, there (goal.at.overflow_sub-first c).In_ok-f)
 
 pub overflow_mul-first : goal.overflow_mul-first
 overflow_mul-first c =
-    let k = (goal.at.overflow_mul-first c).In-In in
+    let k = (goal.at.overflow_mul-first c).In_ok-f in
     product-fits _ _ (omega (arith, there k)) (narrow k)
 
 pub overflow_mul-offset : goal.overflow_mul-offset
 overflow_mul-offset c =
-    let k = (goal.at.overflow_mul-offset c).In-In in
+    let k = (goal.at.overflow_mul-offset c).In_ok-f in
     product-fits _ _ (there k).part (narrow k)
 
 pub overflow_add-offset : goal.overflow_add-offset
 overflow_add-offset c =
-    let k = (goal.at.overflow_add-offset c).In-In in
+    let k = (goal.at.overflow_add-offset c).In_ok-f in
     part-fits _ _ _ (offset k) (there k).part (narrow k)
 
-pub overflow_add-offset-in-In : goal.overflow_add-offset-in-In
-overflow_add-offset-in-In c =
-    let k = (goal.at.overflow_add-offset-in-In c).In-In in
+pub overflow_add-offset-2 : goal.overflow_add-offset-2
+overflow_add-offset-2 c =
+    let k = (goal.at.overflow_add-offset-2 c).In_ok-f in
     place-fits _ _ _ (offset k) (there k).part (narrow k) _ (omega (arith, there k))
 
-pub returns-in-Refused : goal.returns-in-Refused
-returns-in-Refused c =
+pub returns-in_err-f : goal.returns-in_err-f
+returns-in_err-f c =
     let g = c.args in
-    place-refused g.count g.rw.now g.ro.now g.set g.entry g.part g.lane _
-    (found-refused g.count g.rw.now g.ro.now false g.entry g.part g.lane refl _ (sym c.in-Refused.ensures))
+    handed-on _ c.from_residual.ensures.1 ∙
+    (place-refused g.count g.rw.now g.ro.now g.set g.entry g.part g.lane _
+    (found-refused g.count g.rw.now g.ro.now false g.entry g.part g.lane refl _ (sym c.in_err-f.ensures)))
 
-pub returns-else-set-f : goal.returns-else-set-f
-returns-else-set-f c =
+pub returns : goal.returns
+returns c =
     let g = c.args in
     c.placed_in.ensures
-    ∙ placing-at g.count g.rw.now g.ro.now (in-map (goal.at.returns-else-set-f c).In-In) g.set (lt-ltb g.set 3 c.if-not-set.false) c.if-set-f.false
+    ∙ placing-at g.count g.rw.now g.ro.now (in-map (goal.at.returns c).In_ok-f) g.set (lt-ltb g.set 3 c.if-not-set.false) c.if-set-f.false

@@ -1,4 +1,5 @@
 -- Each of the seven calls, where no check refuses it, keeps the relation of bank and table and gives equal answers.
+use Rattle.std.specs.Prelude.{Result}
 use mathlib.Core.Path.{◌≡◌, refl, sym, ap, ◌∙◌}
 use mathlib.Core.List.{List}
 use Prim.Native.Nat.{ℕ, ◌+◌, ◌<◌}
@@ -6,7 +7,7 @@ use native.Mathlib.Omega.{arith}
 use lib.IntN.{ℤ, pos}
 use lib.ListN.{get_or}
 use lib.Dec.{ltb, ltb→lt}
-use Rattle.rules.specs.Words.{Call, select, write, read, byte_write, byte_read, publish, apply, Answer, number}
+use Rattle.rules.specs.Words.{Call, select, write, read, byte_write, byte_read, publish, apply, Answer, number, Refusal}
 use Rattle.rules.specs.Load.{Map}
 use Rattle.rules.specs.Place.{entry, width_of, is_set, length_of}
 use Rattle.rules.specs.Accept.{to_bits}
@@ -26,7 +27,7 @@ use Rattle.rules.proofs.Refusals.Verdicts.{Judged}
 use Rattle.rules.proofs.Lists.Machines.{Alike}
 
 -- the two machines' results: equal answers, and states in the relation
-abbrev pub Same : Map → List ℕ → Answer × Bank → Answer × Table → Type 0
+abbrev pub Same : Map → List ℕ → Result Answer Refusal × Bank → Result Answer Refusal × Table → Type 0
 Same m tail = Alike (Holds m tail)
 
 module _ (m : Map) (g : GoodMap m) (tail : List ℕ) (b : Bank) (t : Table) (r : Holds m tail b t) where

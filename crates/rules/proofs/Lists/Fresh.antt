@@ -1,10 +1,11 @@
 -- A fresh is accepted exactly when the load is and the bank has its size.
+use Rattle.std.specs.Prelude.{Result}
 use mathlib.Core.Path.{◌≡◌, refl}
 use mathlib.Core.List.{List, []}
 use Prim.Native.Nat.{ℕ, ◌≤◌}
 use native.Mathlib.Omega.{arith}
 use lib.ListN.{length}
-use Rattle.rules.specs.Words.{Loaded, accepted}
+use Rattle.rules.specs.Words.{Loaded, accepted, Refusal}
 use Rattle.rules.specs.Load.{load_of, read_of}
 use Rattle.rules.specs.Layout.{bank_size}
 use Rattle.rules.specs.Refuse.{Verdict, passes, refuses, bank_order}
@@ -14,11 +15,11 @@ use Rattle.rules.proofs.Refusals.Orders.{bank-order-passes}
 use Rattle.rules.proofs.Lists.Lists.{lists-agree}
 
 -- a fresh that is accepted passed 9, 8 and the checks of the entries
-record Through (v : Verdict) (answer : Loaded) (n k c d : ℕ) : Type 0 where
+record Through (v : Verdict) (answer : Result Loaded Refusal) (n k c d : ℕ) : Type 0 where
   passed : v ≡ passes
   answers : answer ≡ accepted n k c d
 
-through : (v : Verdict) (answer : Loaded) (b : Bank) (n k c d : ℕ) → (freshened v answer b).0 ≡ accepted n k c d → Through v answer n k c d
+through : (v : Verdict) (answer : Result Loaded Refusal) (b : Bank) (n k c d : ℕ) → (freshened v answer b).0 ≡ accepted n k c d → Through v answer n k c d
 through passes answer b n k c d h = record { passed = refl; answers = h }
 through (refuses r) answer b n k c d h = let o : ◌≡◌ {A = ℕ} 0 1 = cc in absurd (omega arith)
 

@@ -1,5 +1,6 @@
 -- A chain of checks, `refuse b n d`: how it goes on past a check, how it stops at one, and what it shows of an entry that comes out.
-use mathlib.Core.Path.{◌≡◌, refl, ap}
+use Rattle.std.specs.Prelude.{Result, Ok, Err}
+use mathlib.Core.Path.{◌≡◌, refl, ap, sym}
 use mathlib.Core.Bool.{Bool, true, false}
 use mathlib.Core.List.{List}
 use Prim.Native.Nat.{ℕ, ◌+◌, ◌-◌, ◌*◌, ◌≤◌, ◌<◌}
@@ -7,22 +8,23 @@ use native.Mathlib.Omega.{arith}
 use lib.ListN.{length}
 use lib.Dec.{ltb, eqb}
 use borrow.Author.Tests.{leb-false, ltb-false, not-false}
-use Rattle.rules.specs.Words.{Entry, Decoded, decoded, failed, State}
+use Rattle.rules.specs.Words.{Entry, State}
 use Rattle.rules.specs.Parameter.{row_of}
 use Rattle.rules.specs.Descriptor.{byte_at, high_first, entry_at, may_stand, refuse, length_checks, content_checks, decode_at, decode_within, entry_limit}
 use Rattle.rules.proofs.Basics.Tests.{or-no}
 use Rattle.rules.proofs.Table.Rows.{row-least, row-needed, row-width}
 use Rattle.rules.proofs.Place.AcceptedMap.{GoodEntry}
+use Rattle.rules.proofs.Basics.Results.{ok-same}
 
-pub pass : (n : ℕ) (d : Decoded) {b : Bool} {r : Decoded} → b ≡ false → r ≡ d → r ≡ refuse b n d
+pub pass : (n : ℕ) (d : Result Entry ℕ) {b : Bool} {r : (Result Entry ℕ)} → b ≡ false → r ≡ d → r ≡ refuse b n d
 unfolding refuse
 pass n d e h = rw e h
 
-pub stop : (n : ℕ) (d : Decoded) {b : Bool} → b ≡ true → failed n ≡ refuse b n d
+pub stop : (n : ℕ) (d : Result Entry ℕ) {b : Bool} → b ≡ true → Err n ≡ refuse b n d
 unfolding refuse
 stop n d e = rw e
 
-pub passed : (b : Bool) (n : ℕ) (d : Decoded) (e : Entry) → refuse b n d ≡ decoded e → (b ≡ false) × (d ≡ decoded e)
+pub passed : (b : Bool) (n : ℕ) (d : Result Entry ℕ) (e : Entry) → refuse b n d ≡ Ok e → (b ≡ false) × (d ≡ Ok e)
 unfolding refuse
 passed true n d e h = let z : ◌≡◌ {A = ℕ} 0 1 = cc in absurd (omega arith)
 passed false n d e h = (refl, h)
@@ -37,10 +39,7 @@ pub record Passed (a : ℕ) (s : List ℕ) (at : ℕ) (st : State) (e : Entry) :
   pub good : GoodEntry e
   pub sum : st.sum + e.memory ≤ 256
 
-same-entry : (x y : Entry) → decoded x ≡ decoded y → y ≡ x
-same-entry x y h = cc
-
-pub decode-passed : (a : ℕ) (s : List ℕ) (at : ℕ) (st : State) (e : Entry) → decode_at a s at st ≡ decoded e → Passed a s at st e
+pub decode-passed : (a : ℕ) (s : List ℕ) (at : ℕ) (st : State) (e : Entry) → decode_at a s at st ≡ Ok e → Passed a s at st e
 unfolding decode_within length_checks content_checks
 decode-passed a s at st e h =
     let h0 = passed _ _ _ e h in
@@ -52,7 +51,7 @@ decode-passed a s at st e h =
     let h6 = passed _ _ _ e h5.1 in
     let h7 = passed _ _ _ e h6.1 in
     let x : Entry = entry_at a s at st.sum in
-    let q : e ≡ x = same-entry x e h7.1 in
+    let q : e ≡ x = sym (ok-same _ _ h7.1) in
     let fits = (or-no (eqb (length s - at) 1) (ltb (length s - at) x.length) h1.0).1 in
     rw q
     (record {

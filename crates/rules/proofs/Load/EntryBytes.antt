@@ -1,5 +1,6 @@
 -- The entry call's part is the entry's own bytes, as many as its Length says, and at least 4.
 -- So an empty part is handed back exactly when the call is refused.
+use Rattle.std.specs.Prelude.{Err}
 use mathlib.Core.Path.{◌≡◌, refl, ap, ◌∙◌}
 use mathlib.Core.Bool.{not, cond}
 use mathlib.Core.List.{List, [], ◌++◌}
@@ -10,7 +11,7 @@ use lib.ListN.{length, get_or, length-append, length-take, length-drop, get_or-a
 use lib.Seq.{get_or-append-add, get_or-take, get_or-drop}
 use lib.Dec.{T, ltb, leb, ltb→lt, nltb→le}
 use borrow.Author.Tests.{ltb-true, lt-ltb, not-false}
-use Rattle.rules.specs.Words.{Refusal, Entry, says_yes, refused}
+use Rattle.rules.specs.Words.{Refusal, Entry, says_yes}
 use Rattle.rules.specs.Descriptor.{mask_bytes, byte_at}
 use Rattle.rules.specs.Load.{rw_entries, ro_entries, map_of, both_within, map_within, read_of}
 use Rattle.rules.specs.Place.{nothing, entry, is_rw}
@@ -101,14 +102,14 @@ module _ (count : ℕ) (first last : List ℕ) (e : ℕ) where
       let p = order-passes count first last _ h in
       (p.0, ltb-true _ _ (not-false _ (refuse-if-passes _ _ (first-passes _ [] p.1).0)))
 
-  pub part-empty : (entry_bytes count first last e ≡ []) ↔ ((x : Refusal) × (entry_answer count first last e ≡ refused x))
+  pub part-empty : (entry_bytes count first last e ≡ []) ↔ ((x : Refusal) × (entry_answer count first last e ≡ Err x))
   unfolding entry_bytes entry_answer
   part-empty = go (entry_verdict (read_of count first last) e) refl
     where
       own : List ℕ
       own = own_bytes (cond (is_rw (map_of count first last) e) first last) (entry (map_of count first last) e)
 
-      go : (v : Verdict) → entry_verdict (read_of count first last) e ≡ v → (part_or v own ≡ []) ↔ ((x : Refusal) × (answered v says_yes ≡ refused x))
+      go : (v : Verdict) → entry_verdict (read_of count first last) e ≡ v → (part_or v own ≡ []) ↔ ((x : Refusal) × (answered v says_yes ≡ Err x))
       go (refuses r) q = (λ _. (r, refl), λ _. refl)
       go passes q = (
         λ z.

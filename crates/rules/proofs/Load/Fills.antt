@@ -1,5 +1,6 @@
 -- The entries of accepted strings fill them: each begins directly after the one before, from the first byte to the last.
 -- `Filled` says it of a list from a place on, with the state at which each entry passes the checks.
+use Rattle.std.specs.Prelude.{Result, Ok, Err}
 use mathlib.Core.Path.{◌≡◌, refl, ap}
 use mathlib.Core.Bool.{Bool, true, false, cond}
 use mathlib.Core.List.{List, [], ◌∷◌}
@@ -9,7 +10,7 @@ use native.Mathlib.Omega.{arith}
 use lib.ListN.{length, get_or, take}
 use lib.Dec.{ltb}
 use borrow.Author.Tests.{ltb-true, ltb-false}
-use Rattle.rules.specs.Words.{Entry, Decoded, decoded, failed, State, Walked, ended}
+use Rattle.rules.specs.Words.{Entry, State, Refusal}
 use Rattle.rules.specs.Descriptor.{mask_bytes, entry_at, decode_at, limited}
 use Rattle.rules.specs.Load.{start, next, into_ro, fold_by, fold_of, onward, walk_of, gather, entries_from, rw_entries, ro_entries, entries_within, ro_within, rw_within, walk_within}
 use Rattle.rules.specs.Place.{nothing}
@@ -23,7 +24,7 @@ use Rattle.rules.proofs.Load.Walks.{Map-accepted, load-accepted}
 pub record Stands (a : ℕ) (s : List ℕ) (from : ℕ) (e : Entry) : Type 0 where
   pub st : State
   pub left : from < length s
-  pub passes : decode_at a s from st ≡ decoded e
+  pub passes : decode_at a s from st ≡ Ok e
 
 -- entries that stand one directly after the other, from a place of a string to its end
 abbrev pub Filled : ℕ → List ℕ → ℕ → List Entry → Type 0
@@ -34,18 +35,18 @@ module _ (a : ℕ) (s : List ℕ) where
   module _ (end : State) where
     -- one turn of the two walks
     filled-turn :
-        (f at : ℕ) (st : State) (k : Entry → Walked) (l : Entry → List Entry)
-        → ((e : Entry) → at + e.length ≤ length s → length s ≤ at + e.length + f → k e ≡ ended end → Filled a s (at + e.length) (l e))
+        (f at : ℕ) (st : State) (k : Entry → Result State Refusal) (l : Entry → List Entry)
+        → ((e : Entry) → at + e.length ≤ length s → length s ≤ at + e.length + f → k e ≡ Ok end → Filled a s (at + e.length) (l e))
         → at ≤ length s
         → length s ≤ at + suc f
-        → (b : Bool) (d : Decoded)
+        → (b : Bool) (d : Result Entry ℕ)
         → ltb at (length s) ≡ b
         → decode_at a s at st ≡ d
-        → cond b (onward d st k) (ended st) ≡ ended end
+        → cond b (onward d st k) (Ok st) ≡ Ok end
         → Filled a s at (cond b (gather d st l) [])
     filled-turn f at st k l ih u g false d t q h = omega (arith, ltb-false)
-    filled-turn f at st k l ih u g true (failed n) t q h = let z : ◌≡◌ {A = ℕ} 0 1 = cc in absurd (omega arith)
-    filled-turn f at st k l ih u g true (decoded e) t q h =
+    filled-turn f at st k l ih u g true (Err n) t q h = let z : ◌≡◌ {A = ℕ} 0 1 = cc in absurd (omega arith)
+    filled-turn f at st k l ih u g true (Ok e) t q h =
         let p = decode-passed a s at st e q in
         let lt = ltb-true at (length s) t in
         (record { st = st; left = lt; passes = q }, ih e (omega arith) (omega arith) h)
@@ -54,13 +55,13 @@ module _ (a : ℕ) (s : List ℕ) where
         (f at : ℕ) (st : State)
         → at ≤ length s
         → length s ≤ at + f
-        → fold_by limited onward ended a f s at st ≡ ended end
+        → fold_by limited onward Ok a f s at st ≡ Ok end
         → Filled a s at (fold_by limited gather (λ _. []) a f s at st)
     unfolding fold_by
     filled-by zero at st u g h = omega arith
     filled-by (suc f) at st u g h =
         filled-turn f at st
-        (λ e. fold_by limited onward ended a f s (at + e.length) (next st e))
+        (λ e. fold_by limited onward Ok a f s (at + e.length) (next st e))
         (λ e. fold_by limited gather (λ _. []) a f s (at + e.length) (next st e))
         (λ e. filled-by f (at + e.length) (next st e))
         u
@@ -71,7 +72,7 @@ module _ (a : ℕ) (s : List ℕ) where
         refl
         h
 
-    walk-filled : (at : ℕ) (st : State) → at ≤ length s → walk_of a s at st ≡ ended end → Filled a s at (entries_from a s at st)
+    walk-filled : (at : ℕ) (st : State) → at ≤ length s → walk_of a s at st ≡ Ok end → Filled a s at (entries_from a s at st)
     unfolding walk_within fold_of entries_within
     walk-filled at st u h = filled-by (length s) at st u (omega arith) h
 

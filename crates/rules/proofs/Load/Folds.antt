@@ -1,12 +1,13 @@
 -- The law of `fold_by`, for every walk of a string: the fold from a later place on is the fold of the whole.
 -- A loop over a string keeps `Folded` as its invariant: it begins so, goes past an entry so, and ends by `done` or `out`.
+use Rattle.std.specs.Prelude.{Ok}
 use mathlib.Core.Path.{◌≡◌, refl, sym, ◌∙◌}
 use mathlib.Core.List.{List}
 use Prim.Native.Nat.{ℕ, zero, suc, ◌+◌, ◌≤◌, ◌<◌}
 use native.Mathlib.Omega.{arith}
 use lib.ListN.{length}
 use borrow.Author.Tests.{lt-ltb, le-ltb}
-use Rattle.rules.specs.Words.{Entry, decoded, State}
+use Rattle.rules.specs.Words.{Entry, State}
 use Rattle.rules.specs.Descriptor.{decode_at, limited}
 use Rattle.rules.specs.Load.{next, Turn, fold_by, fold_of}
 use Rattle.rules.proofs.Load.Checks.{decode-passed}
@@ -56,8 +57,8 @@ module _ {A : Type 0} {on : Turn A} {end : State → A} {a : ℕ} {s : List ℕ}
     -- a turn that goes on past an entry
     pub turn :
         (e : Entry)
-        → decode_at a s at st ≡ decoded e
-        → ((k : Entry → A) → k e ≡ on (decoded e) st k)
+        → decode_at a s at st ≡ Ok e
+        → ((k : Entry → A) → k e ≡ on (Ok e) st k)
         → Folded on end a s at₀ st₀ (at + e.length) (next st e)
     turn e d g =
         let m = more r.fuel (length s) at r.enough h in

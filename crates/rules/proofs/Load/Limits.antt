@@ -1,5 +1,6 @@
 -- 02, note 7: where a walk without a limit comes to at most n entries of a string, a walk with the limit n is the same, and so is all
 -- that is read of two such strings.
+use Rattle.std.specs.Prelude.{Result, Ok, Err}
 use mathlib.Core.Path.{◌≡◌, refl, ap}
 use mathlib.Core.Bool.{Bool, true, false, cond}
 use mathlib.Core.List.{List, [], ◌∷◌}
@@ -8,7 +9,7 @@ use native.Mathlib.Omega.{arith}
 use lib.ListN.{length}
 use lib.Dec.{ltb}
 use borrow.Author.Tests.{lt-leb}
-use Rattle.rules.specs.Words.{Entry, Decoded, decoded, failed, State, Walked, ended, stopped}
+use Rattle.rules.specs.Words.{Entry, State, Refusal}
 use Rattle.rules.specs.Descriptor.{mask_bytes, unlimited, up_to, limited, entry_limit, decode_within}
 use Rattle.rules.specs.Load.{start, next, into_ro, answer, Turn, onward, gather, after, on_end, fold_by, fold_of, walk_within, entries_within, rest_within, strings_within, rw_within, ro_within, both_within, map_within, Reading, read_of, load_on, load_of}
 use Rattle.rules.specs.Bank.{bank_call_on, bank_call, fresh_on, fresh_call}
@@ -26,8 +27,8 @@ decode-same n a s at st h = rw (lt-leb n st.entries h)
 
 -- a walk that makes of an entry what it makes of the rest behind it
 module _ {A : Type 0} (on : Turn A) (end : State → A)
-    (uses : (e : Entry) (st : State) (k k' : Entry → A) → k e ≡ k' e → on (decoded e) st k ≡ on (decoded e) st k')
-    (fails : (n : ℕ) (st : State) (k k' : Entry → A) → on (failed n) st k ≡ on (failed n) st k')
+    (uses : (e : Entry) (st : State) (k k' : Entry → A) → k e ≡ k' e → on (Ok e) st k ≡ on (Ok e) st k')
+    (fails : (n : ℕ) (st : State) (k k' : Entry → A) → on (Err n) st k ≡ on (Err n) st k')
     (n : ℕ) (a : ℕ) (s : List ℕ) where
   fold-same : (f at : ℕ) (st : State)
       → st.entries + fold_by unlimited tally (λ _. 0) a f s at st ≤ n
@@ -45,14 +46,14 @@ module _ {A : Type 0} (on : Turn A) (end : State → A)
       met : Entry → ℕ
       met e = fold_by unlimited tally (λ _. 0) a f s (at + e.length) (next st e)
 
-      go : (b : Bool) (d : Decoded)
+      go : (b : Bool) (d : Result Entry ℕ)
           → decode_within unlimited a s at st ≡ d
           → ((e : Entry) → st.entries + 1 + met e ≤ n → within e ≡ rest e)
           → st.entries + cond b (tally d st met) 0 ≤ n
           → cond b (on (decode_within (up_to n) a s at st) st within) (end st) ≡ cond b (on d st rest) (end st)
       go false d q ih h = refl
-      go true (failed k) q ih h = rw (decode-same n a s at st (omega arith), q) (fails k st within rest)
-      go true (decoded e) q ih h =
+      go true (Err k) q ih h = rw (decode-same n a s at st (omega arith), q) (fails k st within rest)
+      go true (Ok e) q ih h =
           rw (decode-same n a s at st (omega arith), q)
           (uses e st within rest (ih e (omega arith)))
 
@@ -60,7 +61,7 @@ module _ (n : ℕ) (a : ℕ) (s : List ℕ) (begin : State) (none : begin.entrie
   walk-same : walk_within (up_to n) a s 0 begin ≡ walk_within unlimited a s 0 begin
   unfolding walk_within fold_of
   walk-same =
-      fold-same onward ended (λ e st k k' q. q) (λ m st k k'. refl) n a s (length s) 0 begin (omega arith)
+      fold-same onward Ok (λ e st k k' q. q) (λ m st k k'. refl) n a s (length s) 0 begin (omega arith)
 
   entries-same : entries_within (up_to n) a s 0 begin ≡ entries_within unlimited a s 0 begin
   unfolding entries_within fold_of
@@ -78,12 +79,12 @@ module _ (count : ℕ) (first last : List ℕ) (few : AtMost16 count first last)
   unfolding strings_within rest_within
   strings-same = rw rw-walk (go (walk_within unlimited a first 0 start) refl)
     where
-      go : (w : Walked)
+      go : (w : Result State Refusal)
           → walk_within unlimited a first 0 start ≡ w
           → after w (λ m. after (walk_within limited a last 0 (into_ro m)) answer)
           ≡ after w (λ m. after (walk_within unlimited a last 0 (into_ro m)) answer)
-      go (stopped r) q = refl
-      go (ended m) q = rw (walk-same entry_limit a last (into_ro m) refl (few.in-ro m q))
+      go (Err r) q = refl
+      go (Ok m) q = rw (walk-same entry_limit a last (into_ro m) refl (few.in-ro m q))
 
   rw-same : rw_within limited count first ≡ rw_within unlimited count first
   unfolding rw_within
@@ -93,11 +94,11 @@ module _ (count : ℕ) (first last : List ℕ) (few : AtMost16 count first last)
   unfolding ro_within
   ro-same = rw rw-walk (go (walk_within unlimited a first 0 start) refl)
     where
-      go : (w : Walked)
+      go : (w : Result State Refusal)
           → walk_within unlimited a first 0 start ≡ w
           → on_end w (λ m. entries_within limited a last 0 (into_ro m)) ≡ on_end w (λ m. entries_within unlimited a last 0 (into_ro m))
-      go (stopped r) q = refl
-      go (ended m) q = entries-same entry_limit a last (into_ro m) refl (few.in-ro m q)
+      go (Err r) q = refl
+      go (Ok m) q = entries-same entry_limit a last (into_ro m) refl (few.in-ro m q)
 
   map-same : map_within limited count first last ≡ map_within unlimited count first last
   unfolding map_within both_within

@@ -1,4 +1,5 @@
 -- Passing an entry reads the bytes of that entry alone: lent any piece that holds it whole, it is passed as from all that is left.
+use Rattle.std.specs.Prelude.{Result}
 use mathlib.Core.Path.{◌≡◌, refl, sym, ap, ◌∙◌}
 use mathlib.Core.Bool.{Bool, true, false, ◌&&◌, cond}
 use mathlib.Core.List.{List, []}
@@ -8,7 +9,7 @@ use lib.ListN.{length, take}
 use lib.Seq.{get_or-take, length-take-le}
 use lib.Dec.{T, leb, ltb, leb→le}
 use borrow.Author.Tests.{lt-ltb, le-ltb, ltb-false, ne_eqb}
-use Rattle.rules.specs.Words.{Entry, Decoded, State}
+use Rattle.rules.specs.Words.{Entry, State}
 use Rattle.rules.specs.Parameter.{Extra, code_mask, min, max, step, Row, rows, space, both, row_of}
 use Rattle.rules.specs.Descriptor.{mask_bytes, byte_at, high_first, size_of, Position, absent, after, position_of, codes_of, byte_of, media_side, entry_at, overruns, refuse, length_checks, content_checks, full, limited, decode_at, decode_within}
 use Rattle.rules.specs.Load.{into_ro, sized, passed, pass_in, pass_of}
@@ -75,7 +76,7 @@ module _ (n : ℕ) (s : List ℕ) where
 overruns-no : (left : ℕ) (e : Entry) → 2 ≤ left → e.length ≤ left → overruns left e ≡ false
 overruns-no left e h k = rw (ne_eqb left 1 (omega arith), le-ltb left e.length k) refl
 
-refuse-same : (b : Bool) (k : ℕ) (c d : Decoded) → (b ≡ false → c ≡ d) → refuse b k c ≡ refuse b k d
+refuse-same : (b : Bool) (k : ℕ) (c d : Result Entry ℕ) → (b ≡ false → c ≡ d) → refuse b k c ≡ refuse b k d
 unfolding refuse
 refuse-same true k c d h = refl
 refuse-same false k c d h = h refl

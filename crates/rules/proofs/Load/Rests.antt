@@ -1,4 +1,5 @@
 -- What a walk makes of a string from a place on, it makes of the rest of the string that begins there: only where an entry starts differs.
+use Rattle.std.specs.Prelude.{Result, Ok, Err}
 use mathlib.Core.Path.{◌≡◌, refl, sym, ap, ◌∙◌}
 use mathlib.Core.Bool.{Bool, true, false}
 use mathlib.Core.List.{List}
@@ -9,7 +10,7 @@ use lib.ListN.{length, drop, length-drop}
 use lib.Seq.{get_or-drop}
 use lib.Dec.{ltb}
 use borrow.Author.Tests.{ltb-true, ltb-false}
-use Rattle.rules.specs.Words.{Entry, Decoded, decoded, failed, State, ended}
+use Rattle.rules.specs.Words.{Entry, State}
 use Rattle.rules.specs.Descriptor.{byte_at, high_first, Position, absent, after, codes_of, byte_of, entry_at, refuse, length_checks, content_checks, full, limited, decode_at, decode_within}
 use Rattle.rules.specs.Load.{next, onward, fold_by, fold_of, walk_of, walk_within}
 use Rattle.rules.specs.Conditions.{here, past}
@@ -34,17 +35,17 @@ starting_at at e =
       offset = e.offset;
     }
 
-abbrev moved : ℕ → Decoded → Decoded
-moved at (decoded e) = decoded (starting_at at e)
-moved at (failed k) = failed k
+abbrev moved : ℕ → Result Entry ℕ → Result Entry ℕ
+moved at (Ok e) = Ok (starting_at at e)
+moved at (Err k) = Err k
 
-moved-refuse : (at : ℕ) (b : Bool) (k : ℕ) (d : Decoded) → moved at (refuse b k d) ≡ refuse b k (moved at d)
+moved-refuse : (at : ℕ) (b : Bool) (k : ℕ) (d : Result Entry ℕ) → moved at (refuse b k d) ≡ refuse b k (moved at d)
 unfolding refuse
 moved-refuse at true k d = refl
 moved-refuse at false k d = refl
 
 -- the checks of an entry, given the bytes left
-abbrev judged : ℕ → ℕ → State → Entry → Decoded
+abbrev judged : ℕ → ℕ → State → Entry → Result Entry ℕ
 judged a left st e = refuse (full limited st) 16 (length_checks a left e (content_checks st e))
 
 moved-judged : (at a left : ℕ) (st : State) (e : Entry) → judged a left st (starting_at at e) ≡ moved at (judged a left st e)
@@ -95,45 +96,45 @@ module _ (n : ℕ) (s : List ℕ) where
         ∙ moved-judged at a (length s - (n + at)) st (entry_at a s (n + at) st.sum)
 
     turned :
-        (f g at : ℕ) (st : State) (d : Decoded)
-        → ((e : Entry) → d ≡ decoded e
-        → fold_by limited onward ended a f s (n + (at + e.length)) (next st e) ≡ fold_by limited onward ended a g (drop n s) (at + e.length) (next st e))
-        → onward d st (λ e. fold_by limited onward ended a f s (n + at + e.length) (next st e))
-        ≡ onward (moved at d) st (λ e. fold_by limited onward ended a g (drop n s) (at + e.length) (next st e))
-    turned f g at st (failed k) ih = refl
-    turned f g at st (decoded e) ih =
+        (f g at : ℕ) (st : State) (d : Result Entry ℕ)
+        → ((e : Entry) → d ≡ Ok e
+        → fold_by limited onward Ok a f s (n + (at + e.length)) (next st e) ≡ fold_by limited onward Ok a g (drop n s) (at + e.length) (next st e))
+        → onward d st (λ e. fold_by limited onward Ok a f s (n + at + e.length) (next st e))
+        ≡ onward (moved at d) st (λ e. fold_by limited onward Ok a g (drop n s) (at + e.length) (next st e))
+    turned f g at st (Err k) ih = refl
+    turned f g at st (Ok e) ih =
         let q : n + at + e.length ≡ n + (at + e.length) = omega arith in
         rw q (ih e refl)
 
     by-fuel : (f g at : ℕ) (st : State)
         → length s ≤ n + at + f
         → length (drop n s) ≤ at + g
-        → fold_by limited onward ended a f s (n + at) st ≡ fold_by limited onward ended a g (drop n s) at st
+        → fold_by limited onward Ok a f s (n + at) st ≡ fold_by limited onward Ok a g (drop n s) at st
     by-fuel zero g at st h k =
-        done-by onward ended a s 0 (n + at) st (omega arith)
-        ∙ sym (done-by onward ended a (drop n s) g at st (omega (arith, length-drop n s)))
+        done-by onward Ok a s 0 (n + at) st (omega arith)
+        ∙ sym (done-by onward Ok a (drop n s) g at st (omega (arith, length-drop n s)))
     by-fuel (suc f) g at st h k = go (ltb (n + at) (length s)) refl (λ g at. by-fuel f g at)
       where
         go : (b : Bool) → ltb (n + at) (length s) ≡ b
             → ((g at : ℕ) (st : State) → length s ≤ n + at + f → length (drop n s) ≤ at + g
-            → fold_by limited onward ended a f s (n + at) st ≡ fold_by limited onward ended a g (drop n s) at st)
-            → fold_by limited onward ended a (suc f) s (n + at) st ≡ fold_by limited onward ended a g (drop n s) at st
+            → fold_by limited onward Ok a f s (n + at) st ≡ fold_by limited onward Ok a g (drop n s) at st)
+            → fold_by limited onward Ok a (suc f) s (n + at) st ≡ fold_by limited onward Ok a g (drop n s) at st
         go false q ih =
             let l = ltb-false (n + at) (length s) q in
-            done-by onward ended a s (suc f) (n + at) st l
-            ∙ sym (done-by onward ended a (drop n s) g at st (omega (arith, length-drop n s)))
+            done-by onward Ok a s (suc f) (n + at) st l
+            ∙ sym (done-by onward Ok a (drop n s) g at st (omega (arith, length-drop n s)))
         go true q ih =
             let l = ltb-true (n + at) (length s) q in
             let l' : at < length (drop n s) = omega (arith, length-drop n s) in
             let m = more g (length (drop n s)) at k l' in
-            turn-by onward ended a s f (n + at) st l
+            turn-by onward Ok a s f (n + at) st l
             ∙ turned f m.0 at st (decode_at a s (n + at) st)
             (λ e d.
             let p = decode-passed a s (n + at) st e d in
             ih m.0 (at + e.length) (next st e) (omega (arith, p.long)) (omega (arith, p.long, m.1)))
-            ∙ ap (λ d. onward d st (λ e. fold_by limited onward ended a m.0 (drop n s) (at + e.length) (next st e))) (sym (decode-rest at st))
-            ∙ sym (turn-by onward ended a (drop n s) m.0 at st l')
-            ∙ ap (λ x. fold_by limited onward ended a x (drop n s) at st) (sym m.1)
+            ∙ ap (λ d. onward d st (λ e. fold_by limited onward Ok a m.0 (drop n s) (at + e.length) (next st e))) (sym (decode-rest at st))
+            ∙ sym (turn-by onward Ok a (drop n s) m.0 at st l')
+            ∙ ap (λ x. fold_by limited onward Ok a x (drop n s) at st) (sym m.1)
 
     pub walk-rest : (st : State) → walk_of a s n st ≡ walk_of a (drop n s) 0 st
     unfolding walk_within fold_of
@@ -143,7 +144,7 @@ module _ (n : ℕ) (s : List ℕ) where
 pub walk-past :
     (a : ℕ) (s : List ℕ) (st : State) (e : Entry)
     → 0 < length s
-    → decode_at a s 0 st ≡ decoded e
+    → decode_at a s 0 st ≡ Ok e
     → walk_of a s 0 st ≡ walk_of a (drop e.length s) 0 (next st e)
 walk-past a s st e l d =
     let w : walk_of a s 0 st ≡ walk_of a s (0 + e.length) (next st e) = walk-on a s (0 + e.length) (next st e) 0 st (past e l d here) in

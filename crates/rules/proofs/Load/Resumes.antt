@@ -1,5 +1,6 @@
 -- The laws of `resume_of` and `pass_of`: a load that stands at a place of the string that its state names goes out at an entry that fails a check, from the
 -- RW string into the RO string, and to the load's answer; one entry of it, in either string and between them.
+use Rattle.std.specs.Prelude.{Result, Ok, Err}
 use mathlib.Core.Path.{◌≡◌, refl}
 use mathlib.Core.Bool.{Bool, true, false, cond}
 use mathlib.Core.List.{List}
@@ -8,7 +9,7 @@ use native.Mathlib.Omega.{arith}
 use lib.ListN.{length}
 use lib.Dec.{leb, leb→le}
 use borrow.Author.Tests.{lt-ltb, le-ltb, le-leb}
-use Rattle.rules.specs.Words.{plain, at_entry, failed, State, ended, stopped, Loaded, rejected, not_passed}
+use Rattle.rules.specs.Words.{plain, at_entry, State, Loaded, Refusal}
 use Rattle.rules.specs.Descriptor.{mask_bytes, decode_at}
 use Rattle.rules.specs.Load.{start, into_ro, entry_number, answer, after, walk_of, sized, rest_of, rest_within, strings_within, load_of, resume_of, pass_in, pass_of}
 use Rattle.rules.specs.Conditions.{here}
@@ -29,21 +30,21 @@ module _ (count : ℕ) (first last : List ℕ) where
   string_at ro = cond ro last first
 
   -- what it answers from a place of that string on
-  abbrev pub on_from : Bool → ℕ → State → Loaded
+  abbrev pub on_from : Bool → ℕ → State → Result Loaded Refusal
   on_from true at st = after (walk_of (mask_bytes count) last at st) answer
   on_from false at st = after (walk_of (mask_bytes count) first at st) (λ m. after (walk_of (mask_bytes count) last 0 (into_ro m)) answer)
 
   pub on-stop : (ro : Bool) (at : ℕ) (st : State) (n : ℕ)
       → at < length (string_at ro)
-      → decode_at (mask_bytes count) (string_at ro) at st ≡ failed n
-      → on_from ro at st ≡ rejected (at_entry n (entry_number st))
+      → decode_at (mask_bytes count) (string_at ro) at st ≡ Err n
+      → on_from ro at st ≡ Err (at_entry n (entry_number st))
   on-stop ro at st n l d = go ro ((walk-stops (mask_bytes count) (string_at ro) at st _).1 (record { at = at; st = st; way = here; left = l; number = n; fails = d; says = refl }))
     where
-      go : (b : Bool) → walk_of (mask_bytes count) (string_at b) at st ≡ stopped (at_entry n (entry_number st)) → on_from b at st ≡ rejected (at_entry n (entry_number st))
+      go : (b : Bool) → walk_of (mask_bytes count) (string_at b) at st ≡ Err (at_entry n (entry_number st)) → on_from b at st ≡ Err (at_entry n (entry_number st))
       go true h = rw h
       go false h = rw h
 
-  ends : (s : List ℕ) (at : ℕ) (st : State) → length s ≤ at → walk_of (mask_bytes count) s at st ≡ ended st
+  ends : (s : List ℕ) (at : ℕ) (st : State) → length s ≤ at → walk_of (mask_bytes count) s at st ≡ Ok st
   ends s at st h = (walk-ends (mask_bytes count) s at st st).1 (record { at = at; way = here; none = h })
 
   pub on-into : (at : ℕ) (st : State) → length first ≤ at → on_from false at st ≡ on_from true 0 (into_ro st)
@@ -60,7 +61,7 @@ module _ (count : ℕ) (first last : List ℕ) where
       go true = refl
       go false = refl
 
-  pub resume-9 : (st : State) → sized count first last ≡ false → resume_of count st first last ≡ rejected (plain 9)
+  pub resume-9 : (st : State) → sized count first last ≡ false → resume_of count st first last ≡ Err (plain 9)
   unfolding resume_of
   resume-9 st h = rw h
 
@@ -68,7 +69,7 @@ module _ (count : ℕ) (first last : List ℕ) where
   unfolding resume_of
   resume-begin st h = rw h (rest-begin st)
 
-  pub pass-9 : (st : State) → sized count first last ≡ false → pass_of count st first last ≡ not_passed (plain 9)
+  pub pass-9 : (st : State) → sized count first last ≡ false → pass_of count st first last ≡ Err (plain 9)
   unfolding pass_of
   pass-9 st h = rw h
 

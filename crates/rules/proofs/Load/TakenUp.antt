@@ -1,4 +1,5 @@
 -- 02, note 8: a load broken off after any entry and taken up again, with what it kept and the bytes not yet read, is the load.
+use Rattle.std.specs.Prelude.{Option, Result, Ok, Err, Some}
 use mathlib.Core.Path.{◌≡◌, refl, sym, ap, ◌∙◌}
 use mathlib.Core.Bool.{Bool, true, false, cond}
 use mathlib.Core.List.{List, []}
@@ -7,7 +8,7 @@ use native.Mathlib.Omega.{arith}
 use lib.ListN.{length, drop, length-drop}
 use lib.Dec.{ltb}
 use borrow.Author.Tests.{ltb-true, ltb-false}
-use Rattle.rules.specs.Words.{Refusal, plain, Entry, Decoded, decoded, failed, State, rejected, Passed, past, passed_all, not_passed}
+use Rattle.rules.specs.Words.{Refusal, plain, Entry, State, Passed, past, passed_all}
 use Rattle.rules.specs.Descriptor.{mask_bytes, decode_at}
 use Rattle.rules.specs.Load.{start, next, into_ro, entry_number, answer, after, walk_of, sized, strings_within, load_of, resume_of, passed, pass_in, pass_of}
 use Rattle.rules.specs.Notes.{Break, resume_at, left_by, further, passes, TakenUp}
@@ -20,12 +21,12 @@ abbrev Ordered : State → Type 0
 Ordered st = st.ro ≡ false → st.before ≡ 0
 
 -- what passing an entry does, or fails to do, of a load that was broken off: past it, the load is still the same, and one more entry is counted; else the load passes no entry more
-abbrev Goes : ℕ → Break → Passed → Type 0
-Goes count b (past st n) =
-    (resume_at count (left_by b (past st n)) ≡ resume_at count b)
-    × (Ordered b.kept → (entry_number st ≡ suc (entry_number b.kept)) × Ordered st)
+abbrev Goes : ℕ → Break → Result (Option Passed) Refusal → Type 0
+Goes count b (Ok (Some e)) =
+    (resume_at count (left_by b (past e.state e.length)) ≡ resume_at count b)
+    × (Ordered b.kept → (entry_number e.state ≡ suc (entry_number b.kept)) × Ordered e.state)
 Goes count b passed_all = Ordered b.kept → passes (resume_at count b) ≤ entry_number b.kept
-Goes count b (not_passed r) = (resume_at count b ≡ rejected r) × (Ordered b.kept → passes (resume_at count b) ≤ entry_number b.kept)
+Goes count b (Err r) = (resume_at count b ≡ Err r) × (Ordered b.kept → passes (resume_at count b) ≤ entry_number b.kept)
 
 module _ (count : ℕ) (st : State) (first last : List ℕ) where
   abbrev b : Break
@@ -38,7 +39,7 @@ module _ (count : ℕ) (st : State) (first last : List ℕ) where
     -- an entry at the beginning of a string, at the state m in which the load goes on there
     module _ (m : State) (same : (ro : Bool) → m.ro ≡ ro → resume_of count st first last ≡ on_from count first last ro 0 m)
         (numbered : Ordered st → (entry_number m ≡ entry_number st) × Ordered m) where
-      left-in-ro : (e : Entry) → m.ro ≡ true → 0 < length last → decode_at a last 0 m ≡ decoded e
+      left-in-ro : (e : Entry) → m.ro ≡ true → 0 < length last → decode_at a last 0 m ≡ Ok e
           → resume_of count (next m e) [] (drop e.length last) ≡ resume_of count st first last
       left-in-ro e q l d =
           resume-begin count [] (drop e.length last) (next m e) (sized-less count first last [] (drop e.length last) fine (omega arith) (omega (arith, length-drop e.length last)))
@@ -46,7 +47,7 @@ module _ (count : ℕ) (st : State) (first last : List ℕ) where
           ∙ ap (λ w. after w answer) (sym (walk-past a last m e l d))
           ∙ sym (same true q)
 
-      left-in-rw : (e : Entry) → m.ro ≡ false → 0 < length first → decode_at a first 0 m ≡ decoded e
+      left-in-rw : (e : Entry) → m.ro ≡ false → 0 < length first → decode_at a first 0 m ≡ Ok e
           → resume_of count (next m e) (drop e.length first) last ≡ resume_of count st first last
       left-in-rw e q l d =
           resume-begin count (drop e.length first) last (next m e) (sized-less count first last (drop e.length first) last fine (omega (arith, length-drop e.length first)) (omega arith))
@@ -55,18 +56,18 @@ module _ (count : ℕ) (st : State) (first last : List ℕ) where
           ∙ sym (same false q)
 
       goes-in : (ro : Bool) → m.ro ≡ ro → 0 < length (string_at count first last ro)
-          → (d : Decoded)
+          → (d : Result Entry ℕ)
           → decode_at a (string_at count first last ro) 0 m ≡ d
           → Goes count b (passed m d)
-      goes-in ro q l (failed n) d =
+      goes-in ro q l (Err n) d =
           let stops = same ro q ∙ on-stop count first last ro 0 m n l d in
           (stops, λ o. rw stops (omega (arith, (numbered o).0)))
-      goes-in true q l (decoded e) d = (
+      goes-in true q l (Ok e) d = (
         ap (λ ro. resume_at count (cond ro (record { kept = next m e; rw = []; ro = drop e.length last }) (record { kept = next m e; rw = drop e.length first; ro = last }))) q
             ∙ left-in-ro e q l d,
         λ o. (omega (arith, (numbered o).0), (numbered o).1),
       )
-      goes-in false q l (decoded e) d = (
+      goes-in false q l (Ok e) d = (
         ap (λ ro. resume_at count (cond ro (record { kept = next m e; rw = []; ro = drop e.length last }) (record { kept = next m e; rw = drop e.length first; ro = last }))) q
             ∙ left-in-rw e q l d,
         λ o. (omega (arith, (numbered o).0), (numbered o).1),
@@ -106,20 +107,20 @@ module _ (count : ℕ) (st : State) (first last : List ℕ) where
   goes = go (sized count first last) refl
     where
       go : (x : Bool) → sized count first last ≡ x
-          → Goes count b (cond x (cond st.ro (pass_in a last st) (cond (ltb 0 (length first)) (pass_in a first st) (pass_in a last (into_ro st)))) (not_passed (plain 9)))
+          → Goes count b (cond x (cond st.ro (pass_in a last st) (cond (ltb 0 (length first)) (pass_in a first st) (pass_in a last (into_ro st)))) (Err (plain 9)))
       go true q = goes-sized q
       go false q = (resume-9 count first last st q, λ o. rw (resume-9 count first last st q) (omega arith))
 
 module _ (count : ℕ) where
-  by-goes : (b : Break) (p : Passed) → Goes count b p → resume_at count (left_by b p) ≡ resume_at count b
-  by-goes b (past st n) g = g.0
+  by-goes : (b : Break) (p : Result (Option Passed) Refusal) → Goes count b p → resume_at count (left_by b p) ≡ resume_at count b
+  by-goes b (Ok (Some e)) g = g.0
   by-goes b passed_all g = refl
-  by-goes b (not_passed r) g = refl
+  by-goes b (Err r) g = refl
 
-  refused-by : (b : Break) (p : Passed) → Goes count b p → (r : Refusal) → p ≡ not_passed r → resume_at count b ≡ rejected r
-  refused-by b (past st n) g r h = let z : ◌≡◌ {A = ℕ} 0 1 = cc in absurd (omega arith)
+  refused-by : (b : Break) (p : Result (Option Passed) Refusal) → Goes count b p → (r : Refusal) → p ≡ Err r → resume_at count b ≡ Err r
+  refused-by b (Ok (Some e)) g r h = let z : ◌≡◌ {A = ℕ} 0 1 = cc in absurd (omega arith)
   refused-by b passed_all g r h = let z : ◌≡◌ {A = ℕ} 0 1 = cc in absurd (omega arith)
-  refused-by b (not_passed x) g r h = let q : x ≡ r = cc in g.0 ∙ ap rejected q
+  refused-by b (Err x) g r h = let q : x ≡ r = cc in g.0 ∙ ap Err q
 
   goes-on : (k : ℕ) (b : Break) → resume_at count (further count k b) ≡ resume_at count b
   unfolding further
@@ -135,14 +136,14 @@ module _ (count : ℕ) where
       go true = refl
       go false = refl
 
-  one-more : (b : Break) (k : ℕ) (p : Passed)
+  one-more : (b : Break) (k : ℕ) (p : Result (Option Passed) Refusal)
       → Goes count b p
       → (entry_number b.kept ≡ k) × Ordered b.kept
       → suc k ≤ passes (resume_at count b)
       → (entry_number (left_by b p).kept ≡ suc k) × Ordered (left_by b p).kept
-  one-more b k (past st n) g o h = rw (kept-is b st n) (omega (arith, (g.1 o.1).0, o.0), (g.1 o.1).1)
+  one-more b k (Ok (Some e)) g o h = rw (kept-is b e.state e.length) (omega (arith, (g.1 o.1).0, o.0), (g.1 o.1).1)
   one-more b k passed_all g o h = absurd (omega (arith, g o.1, o.0))
-  one-more b k (not_passed r) g o h = absurd (omega (arith, g.1 o.1, o.0))
+  one-more b k (Err r) g o h = absurd (omega (arith, g.1 o.1, o.0))
 
   counted : (b : Break) → entry_number b.kept ≡ 0 → Ordered b.kept → (k : ℕ) → k ≤ passes (resume_at count b)
       → (entry_number (further count k b).kept ≡ k) × Ordered (further count k b).kept

@@ -1,4 +1,5 @@
 -- A walk that ends, and the entries that it went over; and what an accepted load says of its map.
+use Rattle.std.specs.Prelude.{Result, Ok, Err}
 use mathlib.Core.Path.{◌≡◌, refl, sym, ap, ◌∙◌, subst}
 use mathlib.Core.Bool.{Bool, true, false, cond}
 use mathlib.Core.List.{List, [], ◌∷◌, ◌++◌}
@@ -7,7 +8,7 @@ use native.Mathlib.Omega.{arith}
 use native.Mathlib.Nat.{zero-add}
 use lib.ListN.{length, get_or, length-append, get_or-append}
 use lib.Dec.{T, ltb, leb, leb→le}
-use Rattle.rules.specs.Words.{plain, Entry, Decoded, decoded, failed, State, Walked, ended, stopped, accepted, rejected}
+use Rattle.rules.specs.Words.{plain, Entry, State, accepted, Refusal}
 use Rattle.rules.specs.Descriptor.{mask_bytes, decode_at, limited, entry_limit}
 use Rattle.rules.specs.Load.{start, next, into_ro, answer, fold_by, fold_of, onward, walk_of, gather, entries_from, sized, after, strings_of, load_of, rw_entries, ro_entries, entries_of, total, map_of, both_within, entries_within, map_within, read_of, ro_within, rw_within, rest_within, strings_within, walk_within}
 use Rattle.rules.specs.Place.{nothing, entry, is_staged, held_by, length_of}
@@ -16,6 +17,7 @@ use Rattle.rules.specs.Demands.{Accepted}
 use Rattle.rules.proofs.Basics.Tests.{and₄, by-test, from-true, is-true}
 use Rattle.rules.proofs.Place.AcceptedMap.{Good, GoodMap}
 use Rattle.rules.proofs.Load.Checks.{decode-passed}
+use Rattle.rules.proofs.Basics.Results.{loaded-same}
 
 pub record Listed (st end : State) (l : List Entry) : Type 0 where
   pub side : end.ro ≡ st.ro
@@ -26,24 +28,24 @@ pub record Listed (st end : State) (l : List Entry) : Type 0 where
   pub most : end.sum ≤ 256
   pub good : Good st.sum l
 
-here : (st end : State) → st.sum ≤ 256 → ended st ≡ ended end → Listed st end []
+here : (st end : State) → st.sum ≤ 256 → ◌≡◌ {A = Result State Refusal} (Ok st) (Ok end) → Listed st end []
 unfolding total
 here st end g h =
     let q : st ≡ end = cc in rw (← q) (record { side = refl; before = refl; staged = refl; counts = omega arith; sums = omega arith; most = g; good = g })
 
 module _ (a : ℕ) (s : List ℕ) (end : State) where
   turned :
-      (at : ℕ) (st : State) (k : Entry → Walked) (l : Entry → List Entry)
-      → ((e : Entry) → (next st e).sum ≤ 256 → k e ≡ ended end → Listed (next st e) end (l e))
+      (at : ℕ) (st : State) (k : Entry → Result State Refusal) (l : Entry → List Entry)
+      → ((e : Entry) → (next st e).sum ≤ 256 → k e ≡ Ok end → Listed (next st e) end (l e))
       → st.sum ≤ 256
-      → (b : Bool) (d : Decoded)
+      → (b : Bool) (d : Result Entry ℕ)
       → decode_at a s at st ≡ d
-      → cond b (onward d st k) (ended st) ≡ ended end
+      → cond b (onward d st k) (Ok st) ≡ Ok end
       → Listed st end (cond b (gather d st l) [])
   unfolding total
   turned at st k l ih g false d q h = here st end g h
-  turned at st k l ih g true (failed n) q h = let z : ◌≡◌ {A = ℕ} 0 1 = cc in absurd (omega arith)
-  turned at st k l ih g true (decoded e) q h =
+  turned at st k l ih g true (Err n) q h = let z : ◌≡◌ {A = ℕ} 0 1 = cc in absurd (omega arith)
+  turned at st k l ih g true (Ok e) q h =
       let p = decode-passed a s at st e q in
       let r = ih e p.sum h in
       let off : e.offset ≡ st.sum = ap (λ (x : Entry). x.offset) p.entry in
@@ -57,12 +59,12 @@ module _ (a : ℕ) (s : List ℕ) (end : State) where
         good = (p.good, off, r.good);
       }
 
-  by-fuel : (f at : ℕ) (st : State) → st.sum ≤ 256 → fold_by limited onward ended a f s at st ≡ ended end → Listed st end (fold_by limited gather (λ _. []) a f s at st)
+  by-fuel : (f at : ℕ) (st : State) → st.sum ≤ 256 → fold_by limited onward Ok a f s at st ≡ Ok end → Listed st end (fold_by limited gather (λ _. []) a f s at st)
   unfolding fold_by
   by-fuel zero at st g h = here st end g h
   by-fuel (suc f) at st g h =
       turned at st
-      (λ e. fold_by limited onward ended a f s (at + e.length) (next st e))
+      (λ e. fold_by limited onward Ok a f s (at + e.length) (next st e))
       (λ e. fold_by limited gather (λ _. []) a f s (at + e.length) (next st e))
       (λ e. by-fuel f (at + e.length) (next st e))
       g
@@ -71,7 +73,7 @@ module _ (a : ℕ) (s : List ℕ) (end : State) where
       refl
       h
 
-  pub walk-listed : (at : ℕ) (st : State) → st.sum ≤ 256 → walk_of a s at st ≡ ended end → Listed st end (entries_from a s at st)
+  pub walk-listed : (at : ℕ) (st : State) → st.sum ≤ 256 → walk_of a s at st ≡ Ok end → Listed st end (entries_from a s at st)
   unfolding walk_within fold_of entries_within
   walk-listed at st g h = by-fuel (length s) at st g h
 
@@ -88,13 +90,13 @@ few-by a (suc f) s at st h = go (ltb at (length s)) (decode_at a s at st) refl (
     rest e = fold_by limited gather (λ _. []) a f s (at + e.length) (next st e)
 
     go :
-        (b : Bool) (d : Decoded)
+        (b : Bool) (d : Result Entry ℕ)
         → decode_at a s at st ≡ d
         → ((e : Entry) → st.entries + 1 ≤ entry_limit → st.entries + 1 + length (rest e) ≤ entry_limit)
         → st.entries + length (cond b (gather d st rest) []) ≤ entry_limit
     go false d q ih = omega arith
-    go true (failed n) q ih = omega arith
-    go true (decoded e) q ih =
+    go true (Err n) q ih = omega arith
+    go true (Ok e) q ih =
         let l : st.entries < entry_limit = (decode-passed a s at st e q).few in
         omega (arith, ih e (omega arith))
 
@@ -103,7 +105,7 @@ pub walk-counts :
     (a : ℕ) (s : List ℕ) (at : ℕ) (begin end : State)
     → begin.entries ≤ entry_limit
     → begin.sum ≤ 256
-    → walk_of a s at begin ≡ ended end
+    → walk_of a s at begin ≡ Ok end
     → (end.entries ≤ entry_limit) × (end.sum ≤ 256)
 unfolding entries_within fold_of
 walk-counts a s at begin end few g h =
@@ -143,8 +145,8 @@ ends-all n (e ∷ l) (suc k) g h = omega (arith, ends-all (n + e.memory) l k g.2
 pub record Map-accepted (count : ℕ) (rw ro : List ℕ) (n k c t : ℕ) : Type 0 where
   pub middle : State
   pub end : State
-  pub rw-ends : walk_of (mask_bytes count) rw 0 start ≡ ended middle
-  pub ro-ends : walk_of (mask_bytes count) ro 0 (into_ro middle) ≡ ended end
+  pub rw-ends : walk_of (mask_bytes count) rw 0 start ≡ Ok middle
+  pub ro-ends : walk_of (mask_bytes count) ro 0 (into_ro middle) ≡ Ok end
   pub rw_count : n ≡ length (rw_entries count rw)
   pub ro_count : k ≡ length (ro_entries count rw ro)
   pub staged : c ≡ total (rw_entries count rw)
@@ -156,8 +158,8 @@ pub record Map-accepted (count : ℕ) (rw ro : List ℕ) (n k c t : ℕ) : Type 
   pub sized : T (sized count rw ro)
   pub strings : strings_of count rw ro ≡ accepted n k c t
 
-module _ (count : ℕ) (first last : List ℕ) (m e : State) (p : walk_of (mask_bytes count) first 0 start ≡ ended m)
-    (q : walk_of (mask_bytes count) last 0 (into_ro m) ≡ ended e) where
+module _ (count : ℕ) (first last : List ℕ) (m e : State) (p : walk_of (mask_bytes count) first 0 start ≡ Ok m)
+    (q : walk_of (mask_bytes count) last 0 (into_ro m) ≡ Ok e) where
   ro-entries : ro_entries count first last ≡ entries_from (mask_bytes count) last 0 (into_ro m)
   unfolding ro_within
   ro-entries = rw p
@@ -199,20 +201,17 @@ strings-def count first last = refl
 module _ (count : ℕ) (first last : List ℕ) (n k c t : ℕ) where
   second :
       (m : State)
-      → walk_of (mask_bytes count) first 0 start ≡ ended m
+      → walk_of (mask_bytes count) first 0 start ≡ Ok m
       → T (sized count first last)
       → strings_of count first last ≡ accepted n k c t
-      → (w : Walked)
+      → (w : Result State Refusal)
       → walk_of (mask_bytes count) last 0 (into_ro m) ≡ w
       → after w answer ≡ accepted n k c t
       → Map-accepted count first last n k c t
-  second m p z y (stopped r) q h = let o : ◌≡◌ {A = ℕ} 0 1 = cc in absurd (omega arith)
-  second m p z y (ended e) q h =
-      let n1 : e.before ≡ n = cc in
-      let n2 : e.entries ≡ k = cc in
-      let n3 : e.staged ≡ c = cc in
-      let n4 : e.sum ≡ t = cc in
-      rw (← n1, ← n2, ← n3, ← n4) (both-ended count first last m e p q z (y ∙ sym h))
+  second m p z y (Err r) q h = let o : ◌≡◌ {A = ℕ} 0 1 = cc in absurd (omega arith)
+  second m p z y (Ok e) q h =
+      let ns = loaded-same _ _ h in
+      rw (← ns.0, ← ns.1, ← ns.2, ← ns.3) (both-ended count first last m e p q z (y ∙ sym h))
 
   strings-accepted : T (sized count first last) → strings_of count first last ≡ accepted n k c t → Map-accepted count first last n k c t
   strings-accepted z h = go (walk_of (mask_bytes count) first 0 start) refl (split h)
@@ -221,17 +220,17 @@ module _ (count : ℕ) (first last : List ℕ) (n k c t : ℕ) where
           → after (walk_of (mask_bytes count) first 0 start) (λ m. after (walk_of (mask_bytes count) last 0 (into_ro m)) answer) ≡ accepted n k c t
       split x = sym (strings-def count first last) ∙ x
 
-      go : (w : Walked) → walk_of (mask_bytes count) first 0 start ≡ w
+      go : (w : Result State Refusal) → walk_of (mask_bytes count) first 0 start ≡ w
           → after w (λ m. after (walk_of (mask_bytes count) last 0 (into_ro m)) answer) ≡ accepted n k c t
           → Map-accepted count first last n k c t
-      go (stopped r) p x = let o : ◌≡◌ {A = ℕ} 0 1 = cc in absurd (omega arith)
-      go (ended m) p x = second m p z h (walk_of (mask_bytes count) last 0 (into_ro m)) refl x
+      go (Err r) p x = let o : ◌≡◌ {A = ℕ} 0 1 = cc in absurd (omega arith)
+      go (Ok m) p x = second m p z h (walk_of (mask_bytes count) last 0 (into_ro m)) refl x
 
   pub load-accepted : load_of count first last ≡ accepted n k c t → Map-accepted count first last n k c t
   unfolding load_of
   load-accepted h = go (sized count first last) refl h
     where
-      go : (b : Bool) → sized count first last ≡ b → cond b (strings_of count first last) (rejected (plain 9)) ≡ accepted n k c t → Map-accepted count first last n k c t
+      go : (b : Bool) → sized count first last ≡ b → cond b (strings_of count first last) (Err (plain 9)) ≡ accepted n k c t → Map-accepted count first last n k c t
       go true q x = strings-accepted (from-true q) x
       go false q x = let o : ◌≡◌ {A = ℕ} 0 1 = cc in absurd (omega arith)
 
@@ -276,8 +275,8 @@ map-good count first last h =
 -- both strings walked to their ends, by what each walk counted and summed
 pub strings-walked :
     (count : ℕ) (rw ro : List ℕ) (m e : State)
-    → walk_of (mask_bytes count) rw 0 start ≡ ended m
-    → walk_of (mask_bytes count) ro 0 (into_ro m) ≡ ended e
+    → walk_of (mask_bytes count) rw 0 start ≡ Ok m
+    → walk_of (mask_bytes count) ro 0 (into_ro m) ≡ Ok e
     → strings_of count rw ro ≡ accepted m.entries e.entries m.sum e.sum
 strings-walked count first last m e p q =
     let l = walk-listed (mask_bytes count) first m 0 start (omega arith) p in

@@ -1,4 +1,5 @@
 -- NOTE 2: the owner call by an address and the place call, on accepted strings, agree both ways.
+use Rattle.std.specs.Prelude.{Err}
 use mathlib.Core.Path.{◌≡◌, refl, sym, ap, ◌∙◌}
 use mathlib.Core.Logic.{◌⊎◌, inl, inr}
 use mathlib.Core.Bool.{not}
@@ -7,7 +8,7 @@ use Prim.Native.Nat.{ℕ, suc}
 use native.Mathlib.Omega.{arith}
 use lib.ListN.{length}
 use lib.Dec.{T, ltb, ltb→lt}
-use Rattle.rules.specs.Words.{plain, placed_at, owned_by, not_owned}
+use Rattle.rules.specs.Words.{plain, placed_at, owned_by}
 use Rattle.rules.specs.Load.{Map, map_of}
 use Rattle.rules.specs.Place.{is_set}
 use Rattle.rules.specs.Refuse.{refuse_if}
@@ -61,7 +62,7 @@ module _ (count : ℕ) (first last : List ℕ) (ok : Accepted count first last) 
       let (a, b, c) = and₃ (ltb (offset_of s page byte) (length (addresses s))) (is_set s) _ t in
       offset-given s page byte (ltb→lt _ _ b) (ltb→lt _ _ a)
 
-  refused-at : (s page byte q : ℕ) → T (not (is_bit_at m s page byte q)) → owner_at_call count first last s page byte q ≡ not_owned (plain 10)
+  refused-at : (s page byte q : ℕ) → T (not (is_bit_at m s page byte q)) → owner_at_call count first last s page byte q ≡ Err (plain 10)
   unfolding owner_at_call
   refused-at s page byte q t =
       rw (order-accepted count first last ok (refuse_if (not (is_bit_at m s page byte q)) (plain 10) ∷ []), is-false (is_bit_at m s page byte q) t) refl
@@ -75,7 +76,7 @@ module _ (count : ℕ) (first last : List ℕ) (ok : Accepted count first last) 
           let d = answered-given s page byte q t in
           let (c, z) = (two.owner-is s k q e p i n).0 (sym (same s k page byte q d) ∙ h) in
           (at-address {k = k} d c, z)
-      go (inr t) = let z : not_owned (plain 10) ≡ owned_by e p i n = sym (refused-at s page byte q t) ∙ h in let o : ◌≡◌ {A = ℕ} 0 1 = cc in absurd (omega arith)
+      go (inr t) = let z : Err (plain 10) ≡ owned_by e p i n = sym (refused-at s page byte q t) ∙ h in let o : ◌≡◌ {A = ℕ} 0 1 = cc in absurd (omega arith)
 
   pub at-addresses : OwnerAtAddress count first last
   at-addresses =

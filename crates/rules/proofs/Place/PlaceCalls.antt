@@ -1,4 +1,5 @@
 -- The laws of `place_of` and `owner_call` that a function's proof cites, one for each way out, in 01's order.
+use Rattle.std.specs.Prelude.{Result, Err, Ok}
 use mathlib.Core.Path.{◌≡◌, refl, sym, ◌∙◌}
 use mathlib.Core.Bool.{Bool, true, false, ◌&&◌, not, cond}
 use mathlib.Core.List.{List, [], ◌∷◌}
@@ -7,7 +8,7 @@ use native.Mathlib.Omega.{arith}
 use lib.ListN.{length}
 use lib.Dec.{ltb}
 use borrow.Author.Tests.{ltb-true, ltb-false, lt-ltb, le-ltb}
-use Rattle.rules.specs.Words.{Refusal, plain, Loaded, accepted, rejected, read, not_placed, not_owned}
+use Rattle.rules.specs.Words.{Refusal, plain, Loaded, read}
 use Rattle.rules.specs.Load.{Map, load_of, map_of, read_of}
 use Rattle.rules.specs.Place.{entry, is_set, is_staged, is_rw, has_field, held_by, length_of, field_byte, field_bit, owner_of}
 use Rattle.rules.specs.Refuse.{Verdict, passes, refuses, refuse_if, first_of, check9, check_entries, order_of, exists, misdirected, unaccepted, judge}
@@ -31,12 +32,12 @@ module _ (count : ℕ) (first last : List ℕ) where
     pub place-refused :
         (r : Refusal)
         → order_of (read_of count first last) (refuse_if (not (has_field (map_of count first last) e p i)) (plain 10) ∷ []) ≡ refuses r
-        → not_placed r ≡ place_of count first last s e p i
+        → Err r ≡ place_of count first last s e p i
     unfolding order_of place_of judge exists
     place-refused r h = go (check9 (read_of count first last)) (check_entries (read_of count first last)) (has_field m e p i) h
       where
         go : (a b : Verdict) (t : Bool) → first_of (a ∷ b ∷ refuse_if (not t) (plain 10) ∷ []) ≡ refuses r
-            → not_placed r
+            → Err r
             ≡ placed (first_of (a ∷ b ∷ refuse_if (not (is_set s && t)) (plain 10) ∷ refuse_if (misdirected m (read s e p i)) (plain 11) ∷ refuse_if (unaccepted m (read s e p i)) (plain 12) ∷ []))
             (placed_in s (field_byte (entry m e) p i) (field_bit (entry m e) i))
         go (refuses x) b t q = let z : x ≡ r = cc in rw z refl
@@ -50,12 +51,12 @@ module _ (count : ℕ) (first last : List ℕ) where
       place-is = rw (order-accepted count first last ok (judge m (read s e p i))) refl
 
       -- 10 of a set
-      pub place-10 : is_set s ≡ false → not_placed (plain 10) ≡ place_of count first last s e p i
+      pub place-10 : is_set s ≡ false → Err (plain 10) ≡ place_of count first last s e p i
       unfolding judge exists
       place-10 l = sym (place-is ∙ rw l refl)
 
       module _ (l : is_set s ≡ true) where
-        pub place-11 : (is_staged s && not (is_rw (map_of count first last) e)) ≡ true → not_placed (plain 11) ≡ place_of count first last s e p i
+        pub place-11 : (is_staged s && not (is_rw (map_of count first last) e)) ≡ true → Err (plain 11) ≡ place_of count first last s e p i
         unfolding judge exists misdirected
         place-11 t = sym (place-is ∙ rw (l, h, t) refl)
 
@@ -68,12 +69,12 @@ module _ (count : ℕ) (first last : List ℕ) where
   -- owner
 
   module _ (s k q : ℕ) where
-    pub owner-refused : (r : Refusal) → load_of count first last ≡ rejected r → not_owned r ≡ owner_call count first last s k q
+    pub owner-refused : (r : Refusal) → load_of count first last ≡ Err r → Err r ≡ owner_call count first last s k q
     unfolding owner_call
     owner-refused r h = rw (order-refused count first last r h (refuse_if (not (is_bit m s k q)) (plain 10) ∷ [])) refl
 
     module _ (ok : Accepted count first last) where
-      pub owner-10 : is_bit (map_of count first last) s k q ≡ false → not_owned (plain 10) ≡ owner_call count first last s k q
+      pub owner-10 : is_bit (map_of count first last) s k q ≡ false → Err (plain 10) ≡ owner_call count first last s k q
       unfolding owner_call
       owner-10 h = rw (order-accepted count first last ok (refuse_if (not (is_bit m s k q)) (plain 10) ∷ []), h) refl
 
@@ -97,11 +98,11 @@ module _ (count : ℕ) (first last : List ℕ) where
         outside : is_bit_at m s page byte q ≡ false
         outside = rw (le-ltb (offset_of s page byte) (length (addresses s)) h) refl
 
-        go : (x : Loaded) → load_of count first last ≡ x → owner_call count first last s 256 q ≡ owner_at_call count first last s page byte q
-        go (rejected r) x =
+        go : (x : Result Loaded Refusal) → load_of count first last ≡ x → owner_call count first last s 256 q ≡ owner_at_call count first last s page byte q
+        go (Err r) x =
             sym (owner-refused s 256 q r x) ∙ rw (order-refused count first last r x (refuse_if (not (is_bit_at m s page byte q)) (plain 10) ∷ [])) refl
-        go (accepted n k c t) x =
-            let ok : Accepted count first last = record { rw_count = n; ro_count = k; staged = c; active = t; loads = x } in
+        go (Ok l) x =
+            let ok : Accepted count first last = record { rw_count = l.rw_count; ro_count = l.ro_count; staged = l.staged_length; active = l.active_length; loads = x } in
             let far : ltb 256 (length_of m s) ≡ false = le-ltb 256 (length_of m s) ((map-good count first last ok).lengths s) in
             sym (owner-10 s 256 q ok (rw (far, and-no (is_set s)) refl))
             ∙ rw (order-accepted count first last ok (refuse_if (not (is_bit_at m s page byte q)) (plain 10) ∷ []), outside) refl

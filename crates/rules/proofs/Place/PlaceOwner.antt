@@ -1,4 +1,5 @@
 -- DEMAND 2: the place call and the owner call, on accepted strings, agree both ways.
+use Rattle.std.specs.Prelude.{Err}
 use mathlib.Core.Path.{◌≡◌, refl, sym, ap, ◌∙◌}
 use mathlib.Core.Logic.{◌⊎◌, inl, inr}
 use mathlib.Core.Bool.{◌&&◌, not, cond}
@@ -8,7 +9,7 @@ use native.Mathlib.Omega.{arith}
 use lib.ListN.{length, get_or, take}
 use lib.Dec.{T, ltb, leb, ltb→lt, lt→ltb, le→leb}
 use borrow.Author.Tests.{lt-ltb}
-use Rattle.rules.specs.Words.{plain, Entry, read, placed_at, owned_by, no_owner, not_owned}
+use Rattle.rules.specs.Words.{plain, Entry, read, placed_at, owned_by, no_owner}
 use Rattle.rules.specs.Descriptor.{mask_bytes}
 use Rattle.rules.specs.Load.{Map, rw_entries, ro_entries, map_of, total}
 use Rattle.rules.specs.Place.{nothing, entry, parts_of, width_of, is_set, is_staged, is_rw, held_by, length_of, field_byte, field_bit, covers, owner_of, Owner, field, gap, Field}
@@ -29,6 +30,7 @@ use Rattle.rules.proofs.Load.EntryBytes.{entry-own}
 use Rattle.rules.proofs.Refusals.Verdicts.{judge-passes, judged-passes, order-open}
 use Rattle.rules.proofs.Place.CoverIndex.{index-is, set-covered}
 use Rattle.rules.proofs.Place.Owners.{Covers, covers-says, covers-same, owner-covers, covers-owner, owner-none}
+use Rattle.rules.proofs.Basics.Results.{placed-same, owned-same, some-same, none-some}
 
 -- a field that a set holds is one that may be read, and the other way round
 module _ (m : Map) (g : GoodMap m) where
@@ -57,12 +59,12 @@ module _ (m : Map) (g : GoodMap m) where
   reads-field s e p i q = read-field m g (judge-passes m (read s e p i) q)
 
 owned-field : (c : ℕ) (o : Owner) {e p i n : ℕ} → owned_as c o ≡ owned_by e p i n → o ≡ field e p i
-owned-field c (field e p i) h = cc
-owned-field c gap h = let o : ◌≡◌ {A = ℕ} 0 1 = cc in absurd (omega arith)
+owned-field c (field e p i) h = let f = some-same _ _ (owned-same _ _ h).0 in rw (f.0, f.1, f.2) refl
+owned-field c gap h = absurd (none-some (owned-same _ _ h).0)
 
 owned-gap : (c : ℕ) (o : Owner) {n : ℕ} → owned_as c o ≡ no_owner n → c ≡ n
-owned-gap c (field e p i) h = let o : ◌≡◌ {A = ℕ} 0 1 = cc in absurd (omega arith)
-owned-gap c gap h = cc
+owned-gap c (field e p i) h = absurd (none-some (sym (owned-same _ _ h).0))
+owned-gap c gap h = (owned-same _ _ h).1
 
 offset-at : (n : ℕ) (l : List Entry) → Good n l → (k : ℕ) → k < length l → (get_or l k nothing).offset ≡ n + total (take k l)
 unfolding total
@@ -98,7 +100,9 @@ module _ (count : ℕ) (first last : List ℕ) (ok : Accepted count first last) 
   field-place s e p i k page reg q h = go (first_of (judge m (read s e p i))) refl (sym (place-is s e p i) ∙ h)
     where
       go : (v : Verdict) → first_of (judge m (read s e p i)) ≡ v → placed v (placed_in s (field_byte (entry m e) p i) (field_bit (entry m e) i)) ≡ placed_at k page reg q → At s e p i k page reg q
-      go passes x y = record { field = reads-field m g s e p i x; byte = cc; bit = cc; on = cc; at = cc }
+      go passes x y =
+          let l = placed-same _ _ y in
+          record { field = reads-field m g s e p i x; byte = l.0; bit = l.3; on = rw (← l.0) l.1; at = rw (← l.0) l.2 }
       go (refuses r) x y = let o : ◌≡◌ {A = ℕ} 0 1 = cc in absurd (omega arith)
 
   -- a field that is placed, and its address
@@ -122,7 +126,7 @@ module _ (count : ℕ) (first last : List ℕ) (ok : Accepted count first last) 
   owner-in : (s k q : ℕ) → T (is_bit m s k q) → owner_call count first last s k q ≡ owned_as (looked_at m k) (owner_of m s k q)
   owner-in s k q h = rw (owner-call s k q, is-true (is_bit m s k q) h) refl
 
-  owner-out : (s k q : ℕ) → T (not (is_bit m s k q)) → owner_call count first last s k q ≡ not_owned (plain 10)
+  owner-out : (s k q : ℕ) → T (not (is_bit m s k q)) → owner_call count first last s k q ≡ Err (plain 10)
   owner-out s k q h = rw (owner-call s k q, is-false (is_bit m s k q) h) refl
 
   bit-there : (s k q : ℕ) → s < 3 → k < length_of m s → q < 8 → T (is_bit m s k q)
@@ -188,7 +192,7 @@ module _ (count : ℕ) (first last : List ℕ) (ok : Accepted count first last) 
           let hs : s < 3 = ltb→lt _ _ (and₂ (is_set s) (ltb k (length_of m s) && ltb q 8) t).0 in
           let (f, c) = owner-covers m g s k q (named-has-bytes s hs) e p i (owned-field (looked_at m k) (owner_of m s k q) (sym (owner-in s k q t) ∙ h)) in
           covered-place s e p i k q f c
-      go (inr t) = let z : not_owned (plain 10) ≡ owned_by e p i n = sym (owner-out s k q t) ∙ h in let o : ◌≡◌ {A = ℕ} 0 1 = cc in absurd (omega arith)
+      go (inr t) = let z : Err (plain 10) ≡ owned_by e p i n = sym (owner-out s k q t) ∙ h in let o : ◌≡◌ {A = ℕ} 0 1 = cc in absurd (omega arith)
 
   pub both-ways : OwnerAndPlace count first last
   unfolding m
@@ -198,13 +202,13 @@ module _ (count : ℕ) (first last : List ℕ) (ok : Accepted count first last) 
           λ h.
               let c = owner-place s k q e p i n h in
               let z : owned_by e p i (suc e) ≡ owned_by e p i n = sym (on-owner s e p i k q (place-on s e p i k q c)) ∙ h in
-              (c, cc),
+              (c, sym (owned-same _ _ z).1),
           λ c. on-owner s e p i k q (place-on s e p i k q c.0) ∙ ap (owned_by e p i) (sym c.1),
         );
         owner-gap = λ s k q n hs hk hq.
             let there = owner-in s k q (bit-there s k q hs hk hq) in (
               λ h. (
-                λ e p i c. let z : owned_by e p i (suc e) ≡ no_owner n = sym (on-owner s e p i k q (place-on s e p i k q c)) ∙ h in let o : ◌≡◌ {A = ℕ} 0 1 = cc in omega arith,
+                λ e p i c. let z : owned_by e p i (suc e) ≡ no_owner n = sym (on-owner s e p i k q (place-on s e p i k q c)) ∙ h in none-some (sym (owned-same _ _ z).0),
                 record { last = cover_index m.entries k; covers = set-covered count first last s k ok hk; counts = sym (owned-gap (looked_at m k) (owner_of m s k q) (sym there ∙ h)) },
               ),
               λ h.

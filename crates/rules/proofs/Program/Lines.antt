@@ -1,11 +1,12 @@
 -- The lines of the map program: those of two lists in a row, and so those of both strings.
+use Rattle.std.specs.Prelude.{Ok}
 use mathlib.Core.Path.{◌≡◌, refl}
 use mathlib.Core.List.{List, [], ◌∷◌, ◌++◌, append_assoc}
 use Prim.Native.Nat.{ℕ, suc, ◌+◌}
 use native.Mathlib.Nat.{add-zero}
 use native.Mathlib.Omega.{arith}
 use lib.ListN.{length}
-use Rattle.rules.specs.Words.{Entry, State, ended}
+use Rattle.rules.specs.Words.{Entry, State}
 use Rattle.rules.specs.Descriptor.{mask_bytes}
 use Rattle.rules.specs.Load.{start, into_ro, entry_number, walk_of, entries_from, entries_of, both_within, ro_within, rw_within}
 use Rattle.rules.specs.MapProgram.{entry_lines}
@@ -21,7 +22,7 @@ lines-append n (e ∷ l) r =
 -- the RO string's lines go on from the RW string's last number
 pub lines-both :
     (count : ℕ) (rw ro : List ℕ) (m : State)
-    → walk_of (mask_bytes count) rw 0 start ≡ ended m
+    → walk_of (mask_bytes count) rw 0 start ≡ Ok m
     → entry_lines 0 (entries_of count rw ro)
     ≡ entry_lines 0 (entries_from (mask_bytes count) rw 0 start) ++ entry_lines (entry_number (into_ro m)) (entries_from (mask_bytes count) ro 0 (into_ro m))
 unfolding both_within rw_within ro_within

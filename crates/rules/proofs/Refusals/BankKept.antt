@@ -1,4 +1,5 @@
 -- What a call leaves of a bank: its length and every byte past its size; and all of it where the call is refused.
+use Rattle.std.specs.Prelude.{Err}
 use mathlib.Core.Path.{◌≡◌, refl}
 use mathlib.Core.List.{List, [], ◌++◌}
 use Prim.Native.Nat.{ℕ, ◌+◌, ◌≤◌, ◌<◌}
@@ -6,7 +7,7 @@ use native.Mathlib.Omega.{arith}
 use lib.ListN.{length, set, drop, replicate, length-append, length-drop, length-set, length-replicate}
 use lib.Dec.{ltb, ltb→lt}
 use lib.Seq.{drop-set-lt, drop_at}
-use Rattle.rules.specs.Words.{Refusal, rejected, Call, select, write, read, byte_write, byte_read, publish, apply, refused}
+use Rattle.rules.specs.Words.{Refusal, Call, select, write, read, byte_write, byte_read, publish, apply}
 use Rattle.rules.specs.Load.{load_of, Map, map_of, read_of}
 use Rattle.rules.specs.Place.{is_set, length_of, Field}
 use Rattle.rules.specs.Layout.{bank_size, set_start, app_sel_at}
@@ -57,7 +58,7 @@ module _ (m : Map) (g : GoodMap m) where
   does-keeps (apply s lanes) b size j = kept-apply s lanes b size
 
 module _ (count : ℕ) (first last : List ℕ) (b : Bank) where
-  pub call-keeps : (c : Call) → Keeps b (bank_call count first last c b).1 ((x : Refusal) × ((bank_call count first last c b).0 ≡ refused x))
+  pub call-keeps : (c : Call) → Keeps b (bank_call count first last c b).1 ((x : Refusal) × ((bank_call count first last c b).0 ≡ Err x))
   unfolding bank_call
   call-keeps c = go (bank_order (read_of count first last) (length b) (judge (map_of count first last) c ++ bank_plan (map_of count first last) c b)) refl
     where
@@ -65,7 +66,7 @@ module _ (count : ℕ) (first last : List ℕ) (b : Bank) where
       m = map_of count first last
 
       go : (v : Verdict) → bank_order (read_of count first last) (length b) (judge m c ++ bank_plan m c b) ≡ v
-          → Keeps b (decide v b (bank_does m c b)).1 ((x : Refusal) × ((decide v b (bank_does m c b)).0 ≡ refused x))
+          → Keeps b (decide v b (bank_does m c b)).1 ((x : Refusal) × ((decide v b (bank_does m c b)).0 ≡ Err x))
       go (refuses r) q = record { size = refl; beyond = refl; whole = λ _. refl }
       go passes q =
           let (a, z, r) = bank-order-passes count first last (length b) _ q in
@@ -82,12 +83,12 @@ module _ (count : ℕ) (first last : List ℕ) (b : Bank) where
       let l : length (replicate {A = ℕ} n 0) ≡ n = length-replicate n 0 in
       (omega (arith, length-append (replicate n 0) (drop n b), length-drop n b), drop_at (replicate n 0) (drop n b) n l)
 
-  pub fresh-keeps : Keeps b (fresh_call count first last b).1 ((x : Refusal) × ((fresh_call count first last b).0 ≡ rejected x))
+  pub fresh-keeps : Keeps b (fresh_call count first last b).1 ((x : Refusal) × ((fresh_call count first last b).0 ≡ Err x))
   unfolding fresh_call fresh_bank load_of
   fresh-keeps = go (bank_order (read_of count first last) (length b) []) refl
     where
       go : (v : Verdict) → bank_order (read_of count first last) (length b) [] ≡ v
-          → Keeps b (freshened v (load_of count first last) b).1 ((x : Refusal) × ((freshened v (load_of count first last) b).0 ≡ rejected x))
+          → Keeps b (freshened v (load_of count first last) b).1 ((x : Refusal) × ((freshened v (load_of count first last) b).0 ≡ Err x))
       go (refuses r) q = record { size = refl; beyond = refl; whole = λ _. refl }
       go passes q =
           let (a, z, r) = bank-order-passes count first last (length b) [] q in

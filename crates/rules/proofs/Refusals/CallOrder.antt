@@ -1,11 +1,12 @@
 -- The laws of `bank_call` that a function's proof cites, one for each way out, in the order 9, 8, the checks of the entries, 10, 11, 12, then what is left.
+use Rattle.std.specs.Prelude.{Err}
 use mathlib.Core.Path.{◌≡◌, refl, sym, ap, ◌∙◌}
 use mathlib.Core.Bool.{true, false}
 use mathlib.Core.List.{List, ◌++◌}
 use Prim.Native.Nat.{ℕ, ◌≤◌, ◌<◌}
 use lib.ListN.{length}
 use borrow.Author.Tests.{lt-ltb, le-ltb}
-use Rattle.rules.specs.Words.{Refusal, plain, rejected, Call, refused}
+use Rattle.rules.specs.Words.{Refusal, plain, Call}
 use Rattle.rules.specs.Load.{Map, sized, strings_of, map_of, read_of}
 use Rattle.rules.specs.Layout.{bank_size}
 use Rattle.rules.specs.Refuse.{Verdict, passes, refuses, first_of, check9, check8, check_entries, order_of, bank_order, exists, misdirected, unaccepted, judge}
@@ -35,7 +36,7 @@ module _ (count : ℕ) (first last : List ℕ) (rest : List Verdict) where
   unfolding order_of check9
   order-9 h = rw h
 
-  pub order-entries : sized count first last ≡ true → (r : Refusal) → strings_of count first last ≡ rejected r → order_of (read_of count first last) rest ≡ refuses r
+  pub order-entries : sized count first last ≡ true → (r : Refusal) → strings_of count first last ≡ Err r → order_of (read_of count first last) rest ≡ refuses r
   unfolding order_of check9 check_entries
   order-entries h r k = rw (h, k)
 
@@ -52,7 +53,7 @@ module _ (count : ℕ) (first last : List ℕ) (rest : List Verdict) where
       → sized count first last ≡ true
       → bank_size ≤ size
       → (r : Refusal)
-      → strings_of count first last ≡ rejected r
+      → strings_of count first last ≡ Err r
       → bank_order (read_of count first last) size rest ≡ refuses r
   unfolding bank_order check9 check8 check_entries
   bank-order-entries size h l r k = rw (h, le-ltb size bank_size l, k)
@@ -62,7 +63,7 @@ module _ (count : ℕ) (first last : List ℕ) (c : Call) (b : Bank) where
   abbrev order : Verdict
   order = bank_order (read_of count first last) (length b) (judge (map_of count first last) c ++ bank_plan (map_of count first last) c b)
 
-  pub call-refused : (r : Refusal) → order ≡ refuses r → bank_call count first last c b ≡ (refused r, b)
+  pub call-refused : (r : Refusal) → order ≡ refuses r → bank_call count first last c b ≡ (Err r, b)
   unfolding bank_call
   call-refused r h = rw h refl
 

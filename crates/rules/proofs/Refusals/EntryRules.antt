@@ -1,4 +1,5 @@
 -- The checks of one entry, 16 and 1 to 7, against the rules of 01 and 02: the first check that an entry fails is the first rule that applies.
+use Rattle.std.specs.Prelude.{Result, Ok, Err}
 use mathlib.Core.Path.{◌≡◌, refl}
 use mathlib.Core.Logic.Iff
 use mathlib.Core.Logic.{◌↔◌}
@@ -9,7 +10,7 @@ use native.Mathlib.Omega.{arith}
 use lib.ListN.{length, get_or-eq_default}
 use lib.Dec.{T, ltb, leb, eqb}
 use borrow.Author.Tests.{lt-leb}
-use Rattle.rules.specs.Words.{Entry, Decoded, decoded, failed, State}
+use Rattle.rules.specs.Words.{Entry, State}
 use Rattle.rules.specs.Parameter.{both, rows, space, row_of}
 use Rattle.rules.specs.Descriptor.{byte_at, entry_at, may_stand, late_host, refuse, length_checks, content_checks, decode_at, decode_within}
 use Rattle.rules.specs.Conditions.{Rule, gives, First, WrongString, MediaSide, entry_rules}
@@ -20,19 +21,19 @@ use Rattle.rules.proofs.Table.Columns.{least-says, needed-says, flags-say, step-
 use Rattle.rules.proofs.Refusals.Firsts.{first-here, first-past}
 
 -- a chain of checks fails by the first of some rules
-record Fails (d : Decoded) (rules : List (Rule ℕ)) : Type 0 where
-  is : (n : ℕ) → (d ≡ failed n) ↔ First rules n
+record Fails (d : Result Entry ℕ) (rules : List (Rule ℕ)) : Type 0 where
+  is : (n : ℕ) → (d ≡ Err n) ↔ First rules n
 
-passed-all : (e : Entry) → Fails (decoded e) []
+passed-all : (e : Entry) → Fails (Ok e) []
 passed-all e = record { is = λ n. (λ h. let o : ◌≡◌ {A = ℕ} 0 1 = cc in omega arith, λ h. absurd h) }
 
 -- a check before a chain, and its rule before the chain's rules
 before :
-    {C : Type 0} {d : Decoded} {rules : List (Rule ℕ)} (t : Bool) (k : ℕ) → T t ↔ C → Fails d rules → Fails (refuse t k d) (gives k C ∷ rules)
+    {C : Type 0} {d : (Result Entry ℕ)} {rules : List (Rule ℕ)} (t : Bool) (k : ℕ) → T t ↔ C → Fails d rules → Fails (refuse t k d) (gives k C ∷ rules)
 unfolding refuse
 before {C} {d} {rules} true k h f = record { is = λ n. Iff.trans (fails n) (first-here (gives k C) rules k (refl, h.0 tt) n) }
   where
-    fails : (n : ℕ) → (failed k ≡ failed n) ↔ gives k C n
+    fails : (n : ℕ) → (◌≡◌ {A = Result Entry ℕ} (Err k) (Err n)) ↔ gives k C n
     fails n = (λ q. let e : n ≡ k = cc in (e, h.0 tt), λ q. let e : n ≡ k = q.0 in rw e refl)
 before {C} {d} {rules} false k h f = record { is = λ n. Iff.trans (f.is n) (first-past (gives k C) rules (λ y z. h.1 z.1) n) }
 
@@ -90,5 +91,5 @@ module _ (a : ℕ) (s : List ℕ) (at : ℕ) (st : State) where
       (before _ 7 (lt-says 256 (st.sum + e.memory))
       (passed-all e))))))))
 
-pub entry-says : (a : ℕ) (s : List ℕ) (at : ℕ) (st : State) (n : ℕ) → (decode_at a s at st ≡ failed n) ↔ First (entry_rules a s at st) n
+pub entry-says : (a : ℕ) (s : List ℕ) (at : ℕ) (st : State) (n : ℕ) → (decode_at a s at st ≡ Err n) ↔ First (entry_rules a s at st) n
 entry-says a s at st = (entry-fails a s at st).is

@@ -1,4 +1,5 @@
 -- The state of a walk says whether a media-side table entry has been passed.
+use Rattle.std.specs.Prelude.{Ok}
 use mathlib.Core.Path.{◌≡◌}
 use mathlib.Core.Logic.Iff
 use mathlib.Core.Logic.{◌⊎◌, inl, inr, ⊎_elim, ◌↔◌}
@@ -6,7 +7,7 @@ use mathlib.Core.Bool.{Bool, true, ◌||◌}
 use mathlib.Core.List.{List}
 use Prim.Native.Nat.{ℕ}
 use lib.Dec.{T}
-use Rattle.rules.specs.Words.{Entry, decoded, State}
+use Rattle.rules.specs.Words.{Entry, State}
 use Rattle.rules.specs.Descriptor.{decode_at}
 use Rattle.rules.specs.Load.{start}
 use Rattle.rules.specs.Conditions.{MediaSide, Way, here, past, PastMedia}
@@ -22,7 +23,7 @@ or-first x y h = (
 )
 
 module _ (a : ℕ) (s : List ℕ) where
-  decode-media : (at : ℕ) (st : State) (e : Entry) → decode_at a s at st ≡ decoded e → T e.media ↔ MediaSide a s at
+  decode-media : (at : ℕ) (st : State) (e : Entry) → decode_at a s at st ≡ Ok e → T e.media ↔ MediaSide a s at
   decode-media at st e d = rw (decode-passed a s at st e d).entry (media-says a s at st)
 
   -- it said so at the beginning of the way, or one is passed on the way

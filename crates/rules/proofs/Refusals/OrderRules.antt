@@ -1,4 +1,5 @@
 -- The checks 8 to 12 and the order of all, against the rules of 01: each check says what its rule says.
+use Rattle.std.specs.Prelude.{Result, Err, Ok}
 use mathlib.Core.Path.{◌≡◌, refl}
 use mathlib.Core.Logic.Iff
 use mathlib.Core.Logic.{◌↔◌}
@@ -8,7 +9,7 @@ use Prim.Native.Nat.{ℕ, ◌≤◌, ◌<◌}
 use native.Mathlib.Omega.{arith}
 use lib.ListN.{length}
 use lib.Dec.{T, ltb, leb, eqb}
-use Rattle.rules.specs.Words.{Refusal, plain, Loaded, accepted, rejected, Call, select, write, read, byte_write, byte_read, publish, apply}
+use Rattle.rules.specs.Words.{Refusal, plain, Loaded, Call, select, write, read, byte_write, byte_read, publish, apply}
 use Rattle.rules.specs.Load.{Map, sized, strings_of, read_of}
 use Rattle.rules.specs.Place.{entry, parts_of, is_set, is_staged, is_rw, is_lane, has_field, length_of}
 use Rattle.rules.specs.Accept.{accepts}
@@ -77,10 +78,10 @@ module _ (m : Map) where
       (also (refuse-says (unaccepted m c) (plain 12) (unaccepted-says c)) none))
 
 -- the checks of the entries
-pub refusal-of : (l : Loaded) (x : Refusal) → (refusal_of l ≡ refuses x) ↔ (l ≡ rejected x)
-refusal-of (accepted n k c t) x =
+pub refusal-of : (l : Result Loaded Refusal) (x : Refusal) → (refusal_of l ≡ refuses x) ↔ (l ≡ Err x)
+refusal-of (Ok l) x =
     (λ h. let o : ◌≡◌ {A = ℕ} 0 1 = cc in absurd (omega arith), λ h. let o : ◌≡◌ {A = ℕ} 0 1 = cc in absurd (omega arith))
-refusal-of (rejected r) x = (λ h. let e : r ≡ x = cc in rw e refl, λ h. let e : r ≡ x = cc in rw e refl)
+refusal-of (Err r) x = (λ h. let e : r ≡ x = cc in rw e refl, λ h. let e : r ≡ x = cc in rw e refl)
 
 module _ (count : ℕ) (first last : List ℕ) where
   pub sized-says : T (sized count first last) ↔ Sized count first last

@@ -1,4 +1,5 @@
 -- An order of checks that passes: each of its checks passes, so the load accepts the strings and the bank has its size.
+use Rattle.std.specs.Prelude.{Result, Err, Ok}
 use mathlib.Core.Path.{◌≡◌, refl, sym, ◌∙◌}
 use mathlib.Core.Bool.{Bool, true, false, cond}
 use mathlib.Core.List.{List, [], ◌∷◌}
@@ -6,7 +7,7 @@ use Prim.Native.Nat.{ℕ, ◌≤◌}
 use lib.Dec.{ltb}
 use native.Mathlib.Omega.{arith}
 use borrow.Author.Tests.{not-false, ltb-false}
-use Rattle.rules.specs.Words.{Refusal, plain, Loaded, accepted, rejected}
+use Rattle.rules.specs.Words.{Refusal, plain, Loaded}
 use Rattle.rules.specs.Load.{sized, strings_of, load_of, read_of}
 use Rattle.rules.specs.Refuse.{Verdict, passes, refuses, first_of, check9, check8, refusal_of, check_entries, order_of, bank_order}
 use Rattle.rules.specs.Layout.{bank_size}
@@ -24,9 +25,9 @@ module _ (count : ℕ) (first last : List ℕ) where
       big : sized count first last ≡ true
       big = not-false _ (refuse-if-passes _ _ h)
 
-      go : (x : Loaded) → strings_of count first last ≡ x → refusal_of x ≡ passes → Accepted count first last
-      go (accepted n m c t) q y = record { rw_count = n; ro_count = m; staged = c; active = t; loads = load-strings count first last big ∙ q }
-      go (rejected r) q y = let o : ◌≡◌ {A = ℕ} 0 1 = cc in absurd (omega arith)
+      go : (x : Result Loaded Refusal) → strings_of count first last ≡ x → refusal_of x ≡ passes → Accepted count first last
+      go (Ok l) q y = record { rw_count = l.rw_count; ro_count = l.ro_count; staged = l.staged_length; active = l.active_length; loads = load-strings count first last big ∙ q }
+      go (Err r) q y = let o : ◌≡◌ {A = ℕ} 0 1 = cc in absurd (omega arith)
 
   pub order-passes : (rest : List Verdict) → order_of (read_of count first last) rest ≡ passes → Accepted count first last × (first_of rest ≡ passes)
   unfolding order_of
@@ -58,11 +59,11 @@ module _ (count : ℕ) (first last : List ℕ) where
       (λ p. let (a, z, r) = bank-order-passes size [] p in h a z)
 
   -- the order of a call without a bank, from what the load says
-  pub order-refused : (r : Refusal) → load_of count first last ≡ rejected r → (rest : List Verdict) → order_of (read_of count first last) rest ≡ refuses r
+  pub order-refused : (r : Refusal) → load_of count first last ≡ Err r → (rest : List Verdict) → order_of (read_of count first last) rest ≡ refuses r
   unfolding load_of
   order-refused r h rest = go (sized count first last) refl h
     where
-      go : (t : Bool) → sized count first last ≡ t → cond t (strings_of count first last) (rejected (plain 9)) ≡ rejected r → order_of (read_of count first last) rest ≡ refuses r
+      go : (t : Bool) → sized count first last ≡ t → cond t (strings_of count first last) (Err (plain 9)) ≡ Err r → order_of (read_of count first last) rest ≡ refuses r
       go true q x = order-entries count first last rest q r x
       go false q x = let e : plain 9 ≡ r = cc in rw (← e) (order-9 count first last rest q)
 
@@ -73,7 +74,7 @@ module _ (count : ℕ) (first last : List ℕ) where
   pub bank-order-refused :
       (r : Refusal)
       → sized count first last ≡ true
-      → load_of count first last ≡ rejected r
+      → load_of count first last ≡ Err r
       → (size : ℕ) (rest : List Verdict)
       → bank_size ≤ size
       → bank_order (read_of count first last) size rest ≡ refuses r

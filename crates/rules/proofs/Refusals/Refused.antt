@@ -1,4 +1,5 @@
 -- Each call's refusals, against the rules of 01: a call answers a refusal exactly if its order gives it.
+use Rattle.std.specs.Prelude.{Result, Err, Ok}
 use mathlib.Core.Path.{◌≡◌, refl, sym, ◌∙◌}
 use mathlib.Core.Logic.Iff
 use mathlib.Core.Logic.{◌↔◌}
@@ -9,7 +10,7 @@ use native.Mathlib.Omega.{arith}
 use lib.IntN.{ℤ}
 use lib.ListN.{length}
 use lib.Dec.{T, ltb, eqb, ltb→lt, lt→ltb}
-use Rattle.rules.specs.Words.{Refusal, plain, Loaded, accepted, rejected, Call, select, write, read, byte_write, byte_read, publish, apply, says_yes, number, refused, not_placed, not_owned}
+use Rattle.rules.specs.Words.{Refusal, plain, Loaded, Call, select, write, read, byte_write, byte_read, publish, apply, says_yes, number}
 use Rattle.rules.specs.Load.{sized, strings_of, load_of, Map, map_of, read_of}
 use Rattle.rules.specs.Place.{entry, is_set, is_lane, length_of, field_byte, field_bit, Owner, field, gap, owner_of}
 use Rattle.rules.specs.Accept.{weight_of}
@@ -26,6 +27,7 @@ use Rattle.rules.proofs.Refusals.Firsts.{Says, none, also, all-append, refuse-no
 use Rattle.rules.proofs.Refusals.Orders.{bank-order-passes}
 use Rattle.rules.proofs.Refusals.OrderRules.{lane-says, judge-says, refusal-of, order-says, bank-says}
 use Rattle.rules.proofs.Refusals.PlanRules.{plan-says}
+use Rattle.rules.proofs.Basics.Results.{err-same}
 
 -- an answer that is the verdict's refusal, or no refusal
 module _ {Z : Type 0} (bad : Refusal → Z) (same : (x y : Refusal) → bad x ≡ bad y → x ≡ y) (out : Verdict → Z)
@@ -43,17 +45,14 @@ module _ {Z : Type 0} (bad : Refusal → Z) (same : (x y : Refusal) → bad x �
       go (refuses r) n =
           (λ h. let e : r ≡ x = same r x (sym (hands r) ∙ h) in rw e refl, λ h. let e : r ≡ x = cc in hands r ∙ rw e refl)
 
-refused-same : (x y : Refusal) → refused x ≡ refused y → x ≡ y
-refused-same x y h = cc
-
 -- what an accepted call answers is no refusal
-yes-answers : (x : Refusal) → ¬ (says_yes ≡ refused x)
+yes-answers : (x : Refusal) → ¬ (says_yes ≡ Err x)
 yes-answers x h = let o : ◌≡◌ {A = ℕ} 0 1 = cc in omega arith
 
-number-answers : (n : ℤ) (x : Refusal) → ¬ (number n ≡ refused x)
+number-answers : (n : ℤ) (x : Refusal) → ¬ (number n ≡ Err x)
 number-answers n x h = let o : ◌≡◌ {A = ℕ} 0 1 = cc in omega arith
 
-pub does-answers : (m : Map) (c : Call) (b : Bank) (x : Refusal) → ¬ ((bank_does m c b).0 ≡ refused x)
+pub does-answers : (m : Map) (c : Call) (b : Bank) (x : Refusal) → ¬ ((bank_does m c b).0 ≡ Err x)
 unfolding bank_does
 does-answers m (select s i a) b x = yes-answers x
 does-answers m (write s e p i v) b x = yes-answers x
@@ -64,7 +63,7 @@ does-answers m (publish e p i v) b x = yes-answers x
 does-answers m (apply s lanes) b x = yes-answers x
 
 -- the owner of a bit is a field or a gap
-owner-answers : (n : ℕ) (o : Owner) (x : Refusal) → ¬ (owned_as n o ≡ not_owned x)
+owner-answers : (n : ℕ) (o : Owner) (x : Refusal) → ¬ (owned_as n o ≡ Err x)
 owner-answers n (field e p i) x h = let o : ◌≡◌ {A = ℕ} 0 1 = cc in omega arith
 owner-answers n gap x h = let o : ◌≡◌ {A = ℕ} 0 1 = cc in omega arith
 
@@ -77,35 +76,35 @@ module _ (count : ℕ) (first last : List ℕ) where
   unfolding load_of order_of check9 check_entries
   load-order = go (sized count first last) (strings_of count first last)
     where
-      go : (t : Bool) (l : Loaded) → refusal_of (cond t l (rejected (plain 9))) ≡ first_of (refuse_if (not t) (plain 9) ∷ refusal_of l ∷ [])
-      go true (accepted n k c t) = refl
-      go true (rejected r) = refl
+      go : (t : Bool) (l : Result Loaded Refusal) → refusal_of (cond t l (Err (plain 9))) ≡ first_of (refuse_if (not t) (plain 9) ∷ refusal_of l ∷ [])
+      go true (Ok l) = refl
+      go true (Err r) = refl
       go false l = refl
 
-  pub load-says : (x : Refusal) → (load_of count first last ≡ rejected x) ↔ First (string_rules count first last []) x
+  pub load-says : (x : Refusal) → (load_of count first last ≡ Err x) ↔ First (string_rules count first last []) x
   load-says x =
       Iff.trans (Iff.symm (refusal-of (load_of count first last) x)) (rw load-order (order-says count first last none x))
 
-  pub accepted-loads : Accepted count first last → (x : Refusal) → ¬ (load_of count first last ≡ rejected x)
+  pub accepted-loads : Accepted count first last → (x : Refusal) → ¬ (load_of count first last ≡ Err x)
   accepted-loads a x h = let o : ◌≡◌ {A = ℕ} 0 1 = cc in omega arith
 
   pub place-says :
       (s e p i : ℕ) (x : Refusal)
-      → (place_of count first last s e p i ≡ not_placed x)
+      → (place_of count first last s e p i ≡ Err x)
       ↔ First (string_rules count first last (call_rules m (read s e p i))) x
   unfolding place_of
   place-says s e p i =
-      answer-says not_placed (λ x y h. cc) (λ v. placed v (placed_in s (field_byte (entry m e) p i) (field_bit (entry m e) i))) (λ r. refl) _
+      answer-says Err (λ x y h. cc) (λ v. placed v (placed_in s (field_byte (entry m e) p i) (field_bit (entry m e) i))) (λ r. refl) _
       (order-says count first last (judge-says m (read s e p i)))
       (λ _ x h. let o : ◌≡◌ {A = ℕ} 0 1 = cc in omega arith)
 
   pub owner-says :
       (s k q : ℕ) (x : Refusal)
-      → (owner_call count first last s k q ≡ not_owned x)
+      → (owner_call count first last s k q ≡ Err x)
       ↔ First (string_rules count first last (gives (plain 10) (¬ ((s < 3) × (k < length_of m s) × (q < 8))) ∷ [])) x
   unfolding owner_call
   owner-says s k q =
-      answer-says not_owned (λ x y h. cc) (λ v. owned v (owned_as (looked_at m k) (owner_of m s k q))) (λ r. refl) _
+      answer-says Err (λ x y h. cc) (λ v. owned v (owned_as (looked_at m k) (owner_of m s k q))) (λ r. refl) _
       (order-says count first last (also (refuse-not-says (is_bit m s k q) (plain 10) bit) none))
       (λ _. owner-answers (looked_at m k) (owner_of m s k q))
     where
@@ -114,11 +113,11 @@ module _ (count : ℕ) (first last : List ℕ) where
 
   pub owner-at-says :
       (s page byte q : ℕ) (x : Refusal)
-      → (owner_at_call count first last s page byte q ≡ not_owned x)
+      → (owner_at_call count first last s page byte q ≡ Err x)
       ↔ First (string_rules count first last (gives (plain 10) (¬ (InSet m s page byte × (q < 8))) ∷ [])) x
   unfolding owner_at_call
   owner-at-says s page byte q =
-      answer-says not_owned (λ x y h. cc) (λ v. owned v (owned_as (looked_at m k) (owner_of m s k q))) (λ r. refl) _
+      answer-says Err (λ x y h. cc) (λ v. owned v (owned_as (looked_at m k) (owner_of m s k q))) (λ r. refl) _
       (order-says count first last (also (refuse-not-says (is_bit_at m s page byte q) (plain 10) bit) none))
       (λ _. owner-answers (looked_at m k) (owner_of m s k q))
     where
@@ -142,11 +141,11 @@ module _ (count : ℕ) (first last : List ℕ) where
 
   pub own-entry-says :
       (e : ℕ) (x : Refusal)
-      → (entry_answer count first last e ≡ refused x)
+      → (entry_answer count first last e ≡ Err x)
       ↔ First (string_rules count first last (gives (plain 10) (¬ (e < length m.entries)) ∷ [])) x
   unfolding entry_answer entry_verdict
   own-entry-says e =
-      answer-says refused refused-same (λ v. answered v says_yes) (λ r. refl) _
+      answer-says Err err-same (λ v. answered v says_yes) (λ r. refl) _
       (order-says count first last (also (refuse-not-says (ltb e (length m.entries)) (plain 10) (lt-says e _)) none))
       (λ _. yes-answers)
 
@@ -154,14 +153,14 @@ module _ (count : ℕ) (first last : List ℕ) where
   module _ (b : Bank) where
     pub weight-says :
         (e i : ℕ) (x : Refusal)
-        → (weight_call count first last b e i ≡ refused x)
+        → (weight_call count first last b e i ≡ Err x)
         ↔ First
         (bank_rules count first last b
         (gives (plain 10) (¬ ((e < length m.entries) × ((entry m e).id ≡ 0x12) × Lane i)) ∷ []))
         x
     unfolding weight_call
     weight-says e i =
-        answer-says refused refused-same (λ v. answered v (number (weight_of (entry m e).step (number_in m b 2 e 0 i)))) (λ r. refl) _
+        answer-says Err err-same (λ v. answered v (number (weight_of (entry m e).step (number_in m b 2 e 0 i)))) (λ r. refl) _
         (bank-says count first last (also (refuse-not-says (is_weighed m e i) (plain 10) weighed) none) b)
         (λ _. number-answers _)
       where
@@ -171,17 +170,17 @@ module _ (count : ℕ) (first last : List ℕ) where
 
     pub call-says :
         (c : Call) (x : Refusal)
-        → ((bank_call count first last c b).0 ≡ refused x)
+        → ((bank_call count first last c b).0 ≡ Err x)
         ↔ First (bank_rules count first last b (call_rules m c ++ plan_rules m c b)) x
     unfolding bank_call
     call-says c =
-        answer-says refused refused-same (λ v. (decide v b (bank_does m c b)).0) (λ r. refl) _
+        answer-says Err err-same (λ v. (decide v b (bank_does m c b)).0) (λ r. refl) _
         (bank-says count first last (all-append (judge-says m c) (plan-says m c b)) b)
         (λ _. does-answers m c b)
 
-    pub fresh-says : (x : Refusal) → ((fresh_call count first last b).0 ≡ rejected x) ↔ First (bank_rules count first last b []) x
+    pub fresh-says : (x : Refusal) → ((fresh_call count first last b).0 ≡ Err x) ↔ First (bank_rules count first last b []) x
     unfolding fresh_call load_of
     fresh-says =
-        answer-says rejected (λ x y h. cc) (λ v. (freshened v (load_of count first last) b).0) (λ r. refl) _
+        answer-says Err (λ x y h. cc) (λ v. (freshened v (load_of count first last) b).0) (λ r. refl) _
         (bank-says count first last none b)
         (λ p. accepted-loads (bank-order-passes count first last (length b) [] p).0)

@@ -1,4 +1,5 @@
 -- The first of several checks that refuses: what it says that none does, and how two lists of checks are compared.
+use Rattle.std.specs.Prelude.{Result, Err}
 use mathlib.Core.Path.{◌≡◌, refl}
 use mathlib.Core.Bool.{Bool, true, false, not}
 use mathlib.Core.List.{List, [], ◌∷◌, ◌++◌}
@@ -6,7 +7,7 @@ use Prim.Native.Nat.{ℕ, ◌≤◌}
 use native.Mathlib.Omega.{arith}
 use lib.Dec.{T}
 use borrow.Author.Tests.{le-ltb}
-use Rattle.rules.specs.Words.{Refusal, plain, Call, Answer, refused}
+use Rattle.rules.specs.Words.{Refusal, plain, Call, Answer}
 use Rattle.rules.specs.Layout.{bank_size}
 use Rattle.rules.specs.Load.{Map, read_of}
 use Rattle.rules.specs.Refuse.{Verdict, passes, refuses, refuse_if, first_of, decide, check9, check8, check_entries, order_of, bank_order, exists, misdirected, unaccepted, judge}
@@ -65,8 +66,8 @@ judged-passes m c j =
 
 -- two machines that go by one verdict: both refuse and stay, or both do
 pub decide-both :
-    {A B : Type 0} (P : Answer × A → Answer × B → Type 0) (v : Verdict) (a : A) (b : B) (x : Answer × A) (y : Answer × B)
-    → ((r : Refusal) → P (refused r, a) (refused r, b))
+    {A B : Type 0} (P : Result Answer Refusal × A → Result Answer Refusal × B → Type 0) (v : Verdict) (a : A) (b : B) (x : Result Answer Refusal × A) (y : Result Answer Refusal × B)
+    → ((r : Refusal) → P (Err r, a) (Err r, b))
     → (v ≡ passes → P x y)
     → P (decide v a x) (decide v b y)
 decide-both P passes a b x y f h = h refl

@@ -1,4 +1,5 @@
 -- A small module on which both machines are run by computing. It also shows that the premises of demand 3 and of notes 2, 7 and 8 can be met.
+use Rattle.std.specs.Prelude.{Result, Ok, Err}
 use mathlib.Core.Path.{◌≡◌, refl, sym, ◌∙◌}
 use mathlib.Core.List.{List, [], ◌∷◌, map}
 use mathlib.Core.Bool.{true, false}
@@ -6,7 +7,7 @@ use Prim.Native.Nat.{ℕ, ◌+◌}
 use native.Mathlib.Omega.{arith}
 use lib.IntN.{pos, negsuc}
 use lib.ListN.{take, replicate, length-replicate}
-use Rattle.rules.specs.Words.{plain, at_lane, State, ended, accepted, Call, select, write, read, byte_write, byte_read, publish, apply, Answer, says_yes, number, refused, placed_at, owned_by}
+use Rattle.rules.specs.Words.{plain, at_lane, State, accepted, Call, select, write, read, byte_write, byte_read, publish, apply, Answer, says_yes, number, placed_at, owned_by, Refusal}
 use Rattle.rules.specs.Numbers.{sum, any, lowest}
 use Rattle.rules.specs.Parameter.{row_of}
 use Rattle.rules.specs.Descriptor.{mask_bytes, high_first, codes_of, byte_of, refuse, length_checks, content_checks, unlimited, decode_within}
@@ -85,29 +86,29 @@ calls =
     ∷ publish 0 0 1 (pos 0)
     ∷ []
 
-abbrev answers : List Answer
+abbrev answers : List (Result Answer Refusal)
 answers =
     says_yes
     ∷ says_yes
-    ∷ refused (plain 12)
-    ∷ refused (plain 10)
-    ∷ refused (plain 11)
-    ∷ refused (plain 10)
+    ∷ Err (plain 12)
+    ∷ Err (plain 10)
+    ∷ Err (plain 11)
+    ∷ Err (plain 10)
     ∷ says_yes
     ∷ number (pos 0x93)
     ∷ says_yes
     ∷ number (pos 0)
-    ∷ refused (at_lane 13 4)
+    ∷ Err (at_lane 13 4)
     ∷ says_yes
-    ∷ refused (at_lane 14 4)
+    ∷ Err (at_lane 14 4)
     ∷ says_yes
     ∷ says_yes
     ∷ number (pos 0x20)
     ∷ number (pos 1)
-    ∷ refused (plain 12)
+    ∷ Err (plain 12)
     ∷ says_yes
     ∷ number (negsuc 127)
-    ∷ refused (at_lane 14 3)
+    ∷ Err (at_lane 14 3)
     ∷ says_yes
     ∷ says_yes
     ∷ number (pos 0xF2)
@@ -115,7 +116,7 @@ answers =
     ∷ says_yes
     ∷ number (pos 0xF2)
     ∷ number (negsuc 13)
-    ∷ refused (plain 11)
+    ∷ Err (plain 11)
     ∷ []
 
 example-loads : load_of 2 rw_string ro_string ≡ accepted 4 1 16 24
@@ -163,7 +164,7 @@ example-told =
 abbrev middle : State
 middle = record { ro = false; media = false; entries = 4; before = 0; sum = 16; staged = 0 }
 
-rw-ends : walk_within unlimited (mask_bytes 2) rw_string 0 start ≡ ended middle
+rw-ends : walk_within unlimited (mask_bytes 2) rw_string 0 start ≡ Ok middle
 unfolding row_of mask_bytes high_first codes_of byte_of refuse length_checks content_checks decode_within fold_by fold_of walk_within
 rw-ends = refl
 
@@ -182,7 +183,7 @@ example-few =
       in-ro = λ m q. let e : m ≡ middle = same m (sym q ∙ rw-ends) in rw (e, ro-comes) (omega arith);
     }
   where
-    same : (m : State) → ended m ≡ ended middle → m ≡ middle
+    same : (m : State) → ◌≡◌ {A = Result State Refusal} (Ok m) (Ok middle) → m ≡ middle
     same m h = cc
 
 -- note 7 of this module: its premise is met

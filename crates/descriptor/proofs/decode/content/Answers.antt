@@ -1,7 +1,7 @@
 -- `content` meets its contract: each of its tests is the rules' test of that check.
+use Rattle.std.specs.Prelude.{Ok}
 use Rattle.std.proofs.Common.{◌≡◌, refl, sym, ◌∙◌, ◌+◌, ltb, arith}
 use Rattle.std.proofs.lemmas.Bool.{lt-ltb, le-ltb}
-use Rattle.rules.specs.declared.Decoded.TheVariants.{Entry as decoded}
 use Rattle.rules.specs.Descriptor.{byte_at, entry_at, late_host, refuse, content_checks}
 use Rattle.descriptor.specs.Counts.{alone}
 use Rattle.descriptor.proofs.Chain.{side-is, media-is, needed-is, step-is}
@@ -12,7 +12,7 @@ use Rattle.descriptor.proofs.decode.content.Goals.{After-late_host, Else-reserve
 past-five : (c : Else-reserved_step) →
     let g = c.args in
     let e = entry_at g.a g.s.now g.at g.c.sum in
-    content_checks (alone g.in_ro g.c) e ≡ refuse (late_host e g.c.media) 6 (refuse (ltb 256 (g.c.sum + e.memory)) 7 (decoded e))
+    content_checks (alone g.in_ro g.c) e ≡ refuse (late_host e g.c.media) 6 (refuse (ltb 256 (g.c.sum + e.memory)) 7 (Ok e))
 unfolding content_checks refuse
 past-five c =
     rw (

@@ -6,11 +6,11 @@ use Rattle.rules.proofs.Load.Checks.{decode-passed}
 use Rattle.descriptor.proofs.Scan.{Went, went, failed-by, next-small, decoding-is}
 use Rattle.descriptor.proofs.Lines.{writing-begin, writing-next, writing-stop, writing-end}
 use Rattle.descriptor.proofs.text.put_entries.Goals as goal
-use Rattle.descriptor.proofs.text.put_entries.Goals.{In-Past}
+use Rattle.descriptor.proofs.text.put_entries.Goals.{In-Ok}
 
 -- the entry that a turn goes past
-gone : (c : In-Past) → Went c.loop-from.from c.loop-from.st (decode_at c.args.a c.args.s.now c.loop-from.from c.loop-from.st) c.in-Past.place c.in-Past.after
-gone c = went _ _ _ _ _ (sym (decoding-is _ _ _ _ c.count_of.ensures.0 c.decode-d.ensures) ∙ c.in-Past.is)
+gone : (c : In-Ok) → Went c.loop-from.from c.loop-from.st (decode_at c.args.a c.args.s.now c.loop-from.from c.loop-from.st) c.in-Ok.past.at c.in-Ok.past.counts
+gone c = went _ _ _ _ _ (sym (decoding-is _ _ _ _ c.count_of.ensures.0 c.decode.ensures) ∙ c.in-Ok.is)
 
 pub loop-from-init : goal.loop-from-init
 loop-from-init c = writing-begin _ _ _ _ _ c.requires.before_le_entry_limit.0 c.requires.before_le_entry_limit.1
@@ -18,11 +18,11 @@ loop-from-init c = writing-begin _ _ _ _ _ c.requires.before_le_entry_limit.0 c.
 pub returns-in_default : goal.returns-in_default
 returns-in_default c =
     writing-stop c.loop-from.invariant c.loop-from-test.true _
-    (failed-by _ c.loop-from.st _ _ (sym (decoding-is _ _ _ c.loop-from.st c.count_of.ensures.0 c.decode-d.ensures) ∙ c.in_default.is))
+    (failed-by _ c.loop-from.st _ _ (sym (decoding-is _ _ _ c.loop-from.st c.count_of.ensures.0 c.decode.ensures) ∙ c.in_default.is))
 
 pub put_entry-line-requires-clause-printable : goal.put_entry-line-requires-clause-printable
 put_entry-line-requires-clause-printable c =
-    let w = gone (goal.at.put_entry-line-requires-clause-printable c).In-Past in
+    let w = gone (goal.at.put_entry-line-requires-clause-printable c).In-Ok in
     let e = decode-passed _ _ _ _ _ w.decodes in
     let p = c.requires.ready in
     record {
@@ -34,22 +34,22 @@ put_entry-line-requires-clause-printable c =
 
 pub put_entry-line-requires-clause-at_bound : goal.put_entry-line-requires-clause-at_bound
 put_entry-line-requires-clause-at_bound c =
-    let w = gone (goal.at.put_entry-line-requires-clause-at_bound c).In-Past in
+    let w = gone (goal.at.put_entry-line-requires-clause-at_bound c).In-Ok in
     let e = decode-passed _ _ _ _ _ w.decodes in
     omega (arith, c.loop-from.invariant.put.next, c.loop-from.invariant.put.room, e.within, e.long)
 
 pub counting-st-requires : goal.counting-st-requires
-counting-st-requires c = let w = gone (goal.at.counting-st-requires c).In-Past in rw w.keeps (next-small _ _ _ _ _ w.decodes)
+counting-st-requires c = let w = gone (goal.at.counting-st-requires c).In-Ok in rw w.keeps (next-small _ _ _ _ _ w.decodes)
 
 pub loop-from-smaller : goal.loop-from-smaller
 loop-from-smaller c =
-    let w = gone (goal.at.loop-from-smaller c).In-Past in
+    let w = gone (goal.at.loop-from-smaller c).In-Ok in
     let e = decode-passed _ _ _ _ _ w.decodes in
     rw w.to (omega (arith, e.long, c.loop-from-test.true))
 
 pub loop-from-preserved : goal.loop-from-preserved
 loop-from-preserved c =
-    let w = gone (goal.at.loop-from-preserved c).In-Past in
+    let w = gone (goal.at.loop-from-preserved c).In-Ok in
     rw c.counting-st.ensures (writing-next c.loop-from.invariant c.loop-from-test.true c.requires.ready.mask-low w c.put_entry-line.ensures)
 
 pub returns : goal.returns
