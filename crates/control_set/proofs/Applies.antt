@@ -4,13 +4,15 @@ use mathlib.Core.Path.{◌≡◌, refl, sym, ap, ap₂, ◌∙◌}
 use mathlib.Core.Logic.{◌⊎◌, inl, inr, ◌≢◌}
 use mathlib.Core.Bool.{Bool, true, false, ◌&&◌, not, cond}
 use mathlib.Core.List.{List, ◌++◌}
-use Prim.Native.Nat.{ℕ, ◌+◌, ◌-◌, ◌*◌, ◌^◌, ◌≤◌, ◌<◌}
+use Prim.Native.Nat.{ℕ, zero, suc, ◌+◌, ◌-◌, ◌*◌, ◌^◌, ◌≤◌, ◌<◌}
 use native.Mathlib.Omega.{arith}
 use native.Mathlib.Decide.{dec_lt}
 use lib.ListN.{length, get_or}
 use lib.Dec.{eqb, leb}
 use borrow.Author.Tests.{ne_eqb}
 use Rattle.rules.specs.Words.{accepted, says_yes}
+use Rattle.std.specs.Option.{unwrap_or}
+use Rattle.std.specs.Prelude.{Option, None, Some}
 use Rattle.rules.specs.declared.Entry.{Entry}
 use Rattle.rules.specs.declared.Call.{Call}
 use Rattle.rules.specs.declared.Refusal.TheVariants.{Plain as plain, AtLane as at_lane}
@@ -43,7 +45,7 @@ use Rattle.descriptor.proofs.Marks.{Marked, marked}
 use Rattle.control_set.specs.declared.plan.Chosen.{Chosen}
 use Rattle.control_set.specs.Field.{bits_at}
 use Rattle.control_set.specs.Gate.{Opened}
-use Rattle.control_set.specs.Lanes.{Lanes, NoLane}
+use Rattle.control_set.specs.Lanes.{Lanes, NoLane, lane_at}
 use Rattle.control_set.specs.Plan.{Asked, Arranged, rw_entry, fields_of, Walk, copies_by, lacks_by, refused_at, refused_in, refused_among, Planned, Merged}
 use Rattle.control_set.proofs.LaneMasks.{any-clear, lanes-lowest, lanes-clear}
 use Rattle.control_set.proofs.Masks.{cut-merged, merge-by-lt, merge-by-none}
@@ -66,15 +68,23 @@ from-source : (t : Bool) (m : Map) (b : Bank) (s e p i : ℕ) → bits_from (con
 from-source true m b s e p i = refl
 from-source false m b s e p i = refl
 
--- 13 and 14 by a mask of lanes
-module _ (number : ℕ) (f : ℕ → Bool) (lanes : ℕ) {k : ℕ} (h : Lanes 9 f lanes) (q : k ≡ lowest 8 1 (chooses lanes)) where
-  lowest-refuses : k ≢ 0 → at_lowest number f ≡ refuses (at_lane number k)
-  unfolding at_lowest
-  lowest-refuses ne = rw (← lanes-lowest f lanes h, ← q, ne_eqb k 0 ne) refl
+-- 13 and 14 by a mask of lanes, whose lowest one is looked for
+some-lane : (n k : ℕ) → lane_at n ≡ Some k → (n ≡ k) × (eqb n 0 ≡ false)
+some-lane zero k q = let o : ◌≡◌ {A = ℕ} 0 1 = cc in absurd (omega arith)
+some-lane (suc n) k q = (ap (λ (o : Option ℕ). unwrap_or o 0) q, ne_eqb (suc n) 0 (λ z. omega arith))
 
-  lowest-passes : k ≡ 0 → at_lowest number f ≡ passes
+no-lane : (n : ℕ) → lane_at n ≡ None → n ≡ 0
+no-lane zero q = refl
+no-lane (suc n) q = let o : ◌≡◌ {A = ℕ} 0 1 = cc in absurd (omega arith)
+
+module _ (number : ℕ) (f : ℕ → Bool) (lanes : ℕ) {o : Option ℕ} (h : Lanes 9 f lanes) (q : o ≡ lane_at (lowest 8 1 (chooses lanes))) where
+  lowest-refuses : (k : ℕ) → o ≡ Some k → at_lowest number f ≡ refuses (at_lane number k)
   unfolding at_lowest
-  lowest-passes z = rw (← lanes-lowest f lanes h, ← q, z) refl
+  lowest-refuses k z = let (e, ne) = some-lane _ k (sym q ∙ z) in rw (← lanes-lowest f lanes h, ne, e) refl
+
+  lowest-passes : o ≡ None → at_lowest number f ≡ passes
+  unfolding at_lowest
+  lowest-passes z = rw (← lanes-lowest f lanes h, no-lane _ (sym q ∙ z)) refl
 
 -- the RW entries of strings that load
 module _ (count : ℕ) (first last : List ℕ) (n k c t : ℕ) (h : load_of count first last ≡ accepted n k c t) where
@@ -274,7 +284,7 @@ module _ (count : ℕ) (first last : List ℕ) (n k c t : ℕ) (h : load_of coun
       unfolding exists misdirected
       apply-11 l = call-11 count first last call b o is l
 
-      module _ (l : eqb s 2 ≡ false) (none : ℕ) {i : ℕ} (r : Lanes 9 (lacks_by (asked s lanes b count) b) none) (q : i ≡ lowest 8 1 (chooses none)) where
+      module _ (l : eqb s 2 ≡ false) (none : ℕ) {i : Option ℕ} (r : Lanes 9 (lacks_by (asked s lanes b count) b) none) (q : i ≡ lane_at (lowest 8 1 (chooses none))) where
         order : bank_order (read_of count first last) (length b) (judge m call ++ bank_plan m call b) ≡ first_of (bank_plan m call b)
         unfolding exists misdirected unaccepted
         order = bank-order-accepted count first last ok (length b) _ size ∙ judge-ok m call (bank_plan m call b) is l refl
@@ -282,22 +292,22 @@ module _ (count : ℕ) (first last : List ℕ) (n k c t : ℕ) (h : load_of coun
         lacks : Lanes 9 (bank_lacks_app (map_of count first last) b s lanes) none
         lacks j a u = r j a u ∙ lacks-is s lanes b j
 
-        pub apply-13 : i ≢ 0 → bank_call count first last (Call.Apply s lanes) b ≡ (Err (at_lane 13 i), b)
+        pub apply-13 : (k : ℕ) → i ≡ Some k → bank_call count first last (Call.Apply s lanes) b ≡ (Err (at_lane 13 k), b)
         unfolding bank_plan
-        apply-13 ne = call-refused count first last call b (at_lane 13 i) (order ∙ rw (lowest-refuses 13 _ none lacks q ne) refl)
+        apply-13 k z = call-refused count first last call b (at_lane 13 k) (order ∙ rw (lowest-refuses 13 _ none lacks q k z) refl)
 
-        pub apply-clear : i ≡ 0 → NoLane (lacks_by (asked s lanes b count) b)
-        apply-clear z = lanes-clear _ (sym (lanes-lowest _ none r) ∙ sym q ∙ z)
+        pub apply-clear : i ≡ None → NoLane (lacks_by (asked s lanes b count) b)
+        apply-clear z = lanes-clear _ (sym (lanes-lowest _ none r) ∙ no-lane _ (sym q ∙ z))
 
-        module _ (z : i ≡ 0) (bad : ℕ) {j : ℕ} (w : Lanes 9 (refused_among (asked s lanes b count) n (rw_entry count first) b) bad) (y : j ≡ lowest 8 1 (chooses bad)) where
+        module _ (z : i ≡ None) (bad : ℕ) {j : Option ℕ} (w : Lanes 9 (refused_among (asked s lanes b count) n (rw_entry count first) b) bad) (y : j ≡ lane_at (lowest 8 1 (chooses bad))) where
           holds : Lanes 9 (bank_holds_bad (map_of count first last) b s lanes) bad
           holds e a u = w e a u ∙ among-is s lanes b e
 
-          pub apply-14 : j ≢ 0 → bank_call count first last (Call.Apply s lanes) b ≡ (Err (at_lane 14 j), b)
+          pub apply-14 : (k : ℕ) → j ≡ Some k → bank_call count first last (Call.Apply s lanes) b ≡ (Err (at_lane 14 k), b)
           unfolding bank_plan
-          apply-14 ne =
-              call-refused count first last call b (at_lane 14 j) (order ∙ rw (lowest-passes 13 _ none lacks q z, lowest-refuses 14 _ bad holds y ne) refl)
+          apply-14 k u =
+              call-refused count first last call b (at_lane 14 k) (order ∙ rw (lowest-passes 13 _ none lacks q z, lowest-refuses 14 _ bad holds y k u) refl)
 
-          pub apply-done : j ≡ 0 → bank_call count first last (Call.Apply s lanes) b ≡ (says_yes, apply_bank (map_of count first last) s lanes b)
+          pub apply-done : j ≡ None → bank_call count first last (Call.Apply s lanes) b ≡ (says_yes, apply_bank (map_of count first last) s lanes b)
           unfolding bank_plan bank_does
           apply-done u = call-does count first last call b (order ∙ rw (lowest-passes 13 _ none lacks q z, lowest-passes 14 _ bad holds y u) refl)

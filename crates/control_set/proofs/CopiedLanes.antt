@@ -6,7 +6,7 @@ use native.Mathlib.Omega.{arith}
 use native.Mathlib.Decide.{ℕ_discrete}
 use native.Mathlib.Nat.{mul_comm, mod-eq_of_lt, div_self, one-mul}
 use lib.Bits.{bit_and, bit_or}
-use lib.Dec.{eqb, leb, leb→le}
+use lib.Dec.{leb, leb→le}
 use lib.Pow.{pow_pos, pow-lt, shl-shr, shr-shr}
 use mir.Val.{bool_byte}
 use Rattle.rules.specs.Numbers.{bit_of}
@@ -16,8 +16,7 @@ use Rattle.rules.specs.Bank.{Bank, app_sel_in}
 use Rattle.rules.proofs.Basics.Tests.{and₂, from-true, and-yes, or-yes}
 use Rattle.descriptor.proofs.Bits.{and-bit, or-bit}
 use Rattle.control_set.specs.declared.plan.Chosen.{Chosen}
-use Rattle.control_set.specs.Lanes.{NoLane}
-use Rattle.control_set.specs.Plan.{Asked, lacks_by, copies_by, Wanted, has_one_of}
+use Rattle.control_set.specs.Plan.{Served, copies_by, Wanted, has_one_of}
 
 -- bit a of a mask moved up by one bit is its bit a − 1
 moved-bit : (mask a : ℕ) → 1 ≤ a → 2 * mask / 2 ^ a ≡ mask / 2 ^ (a - 1)
@@ -34,25 +33,17 @@ moved-one true n h q =
     rw (one-mul (2 ^ n), mod-eq_of_lt s, div_self (pow_pos n)) refl
 moved-one false n h q = let o : ◌≡◌ {A = ℕ} 0 1 = cc in absurd (omega arith)
 
-module _ (c : Chosen) (b : Bank) (a : Asked c b) (none : NoLane (lacks_by c b)) (i : ℕ) (l : 1 ≤ i) (u : i ≤ 8) where
+module _ (c : Chosen) (b : Bank) (v : Served c b) (i : ℕ) (l : 1 ≤ i) (u : i ≤ 8) where
   app-in : (t : Bool) → is_app c.count (app_sel_in b c.set i) ≡ t → not t ≡ false
       → (is_app c.count (app_sel_in b c.set i) ≡ true) × (1 ≤ app_sel_in b c.set i) × (app_sel_in b c.set i < 2 ^ 4)
   app-in true q z =
       let (x, y) = and₂ (leb 1 (app_sel_in b c.set i)) (leb (app_sel_in b c.set i) c.count) (from-true q) in
-      (q, leb→le 1 _ x, omega (arith, leb→le _ c.count y, a.count))
+      (q, leb→le 1 _ x, omega (arith, leb→le _ c.count y, v.asked.count))
   app-in false q z = let o : ◌≡◌ {A = ℕ} 0 1 = cc in absurd (omega arith)
 
   -- a chosen lane's AppSel
   pub app-chosen : chooses c.lanes i ≡ true → (is_app c.count (app_sel_in b c.set i) ≡ true) × (1 ≤ app_sel_in b c.set i) × (app_sel_in b c.set i < 2 ^ 4)
-  app-chosen q = app-in _ refl (rw q at (none i l u))
-
-  -- whether some AppSels have it
-  pub with-is : (apps : ℕ) → (chooses c.lanes i && eqb (apps / 2 ^ (app_sel_in b c.set i % 2 ^ 4) % 2 ^ 1) 1) ≡ has_one_of c apps b i
-  with-is apps = go (chooses c.lanes i) refl
-    where
-      go : (t : Bool) → t ≡ chooses c.lanes i → (t && eqb (apps / 2 ^ (app_sel_in b c.set i % 2 ^ 4) % 2 ^ 1) 1) ≡ (t && bit_of apps (app_sel_in b c.set i))
-      go false q = refl
-      go true q = rw (mod-eq_of_lt (app-chosen (sym q)).2) refl
+  app-chosen q = app-in _ refl (rw q at (v.apps i l u))
 
   module _ (apps : ℕ) (w : Wanted 9 c b apps) where
     -- those of the wanted AppSels that an entry has: their lanes are copied

@@ -1,5 +1,5 @@
 -- The copy byte by byte.
-use mathlib.Core.Path.{◌≡◌, refl, ap, ap₂, ◌∙◌}
+use mathlib.Core.Path.{◌≡◌, ap, ap₂, ◌∙◌}
 use mathlib.Core.List.{List}
 use Prim.Native.Nat.{ℕ, ◌+◌, ◌≤◌, ◌<◌}
 use native.Mathlib.Omega.{arith}
@@ -23,9 +23,6 @@ pub mid-byte :
 mid-byte a k j l hj h f =
     set_mid_at a k j l (f (get_or (mid_of a k l) j 0)) (simp (length-take, length-drop) (omega arith))
     ∙ ap (λ (x : ℕ). set l (a + j) (f x)) (get_or-take k (drop a l) j 0 hj ∙ get_or-drop a l j 0)
-
-pub merged-none : (s : ℕ) (plan : List ℕ) (b : Bank) → Merged 0 s plan b b
-merged-none s plan b = record { size = refl; here = λ j l. absurd (omega arith); rest = λ n o. refl }
 
 module _ {k s : ℕ} (hs : s < 2) (hk : k < 256) {plan : List ℕ} {b x : Bank} (size : bank_size ≤ length b) (r : Merged k s plan b x) where
   active-at : set_start 2 + k < length x

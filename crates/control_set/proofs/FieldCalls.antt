@@ -7,8 +7,9 @@ use Prim.Native.Nat.{ℕ, ◌^◌, ◌<◌}
 use native.Mathlib.Omega.{arith}
 use lib.IntN.{ℤ}
 use lib.ListN.{length}
+use Rattle.std.specs.Prelude.{Some, None}
 use lib.Dec.{T, ltb, eqb, ltb→lt, eqb→eq}
-use borrow.Author.Tests.{ltb-false}
+use borrow.Author.Tests.{ltb-false, eq-eqb}
 use Rattle.rules.specs.Words.{number}
 use Rattle.rules.specs.declared.Call.{Call}
 use Rattle.rules.specs.declared.Refusal.{Refusal}
@@ -31,13 +32,13 @@ use Rattle.rules.proofs.Bank.Places.{named-has-bytes}
 use Rattle.descriptor.specs.declared.Named.{Named}
 use Rattle.descriptor.specs.Find.{accepted_by, told_order, found_of}
 use Rattle.descriptor.proofs.Accepts.{named-accepts}
-use Rattle.descriptor.proofs.Finds.{id-is, side-is, offset-is, width-is, signed-is, step-is, found-stops, found-9, found-8, found-in}
+use Rattle.descriptor.proofs.Finds.{side-is, offset-is, width-is, signed-is, step-some, step-none, found-stops, found-9, found-8, found-in}
 use Rattle.control_set.specs.Field.{Spot, InBits, bits_at, with_bits}
-use Rattle.control_set.specs.Values.{CodesLow, number_by}
+use Rattle.control_set.specs.Values.{number_by}
 use Rattle.control_set.specs.Gate.{Opened, Entered, FieldGated}
 use Rattle.control_set.proofs.Spots.{spot-room, spot-field, bits-at-lt, number-field, with-number}
 use Rattle.control_set.proofs.Signs.{accepted-byte}
-use Rattle.control_set.proofs.Values.{named-ranged, number-named}
+use Rattle.control_set.proofs.Values.{number-named}
 
 -- what comes before 10, and 10 itself, in the order of any call that gives 10 to a field that doesn't exist
 pass-on :
@@ -81,9 +82,6 @@ module _ (count : ℕ) (first last : List ℕ) (b : Bank) {e p i : ℕ} {f : Nam
 
   pub entered-opened : Opened count first last (length b) t.named.ok.rw_count t.named.ok.ro_count t.named.ok.staged t.named.ok.active
   entered-opened = record { size-is = t.size-is; loads = t.named.ok.loads }
-
-  pub ranged : CodesLow f.low f.high f.coded
-  ranged = rw (← t.named.is) (named-ranged (not (is_rw n e)) (entry n e))
 
   -- 10
   has : T (has_field (map_of count first last) e p i)
@@ -220,21 +218,21 @@ module _ (count : ℕ) (first last : List ℕ) (b : Bank) (e i : ℕ) where
 
   module _ {f : Named} (t : Entered count first last (length b) e 0 i f) where
     order : bank_order (read_of count first last) (length b) (refuse_if (not (is_weighed (map_of count first last) e i)) (plain 10) ∷ [])
-        ≡ first_of (refuse_if (not (eqb f.id 0x12)) (plain 10) ∷ [])
+        ≡ first_of (refuse_if (not (eqb (entry (map_of count first last) e).id 0x12)) (plain 10) ∷ [])
     order =
         let (x, _, y) = and₃ (ltb e (length (map_of count first last).entries)) (ltb 0 (parts_of (entry (map_of count first last) e))) (is_lane i) (from-true t.named.has) in
         let x' = is-true (ltb e (length (map_of count first last).entries)) x in
         let y' = is-true (is_lane i) y in
         bank-order-accepted count first last t.named.ok (length b) _ t.size-is
-        ∙ rw (x', y', id-is count first last t.named, and-yes (eqb (entry (map_of count first last) e).id 0x12)) refl
+        ∙ rw (x', y', and-yes (eqb (entry (map_of count first last) e).id 0x12)) refl
 
-    pub weight-10 : eqb f.id 0x12 ≡ false → Err (plain 10) ≡ weight_call count first last b e i
+    pub weight-10 : None ≡ f.step → Err (plain 10) ≡ weight_call count first last b e i
     unfolding weight_call
-    weight-10 h = rw (order, h) refl
+    weight-10 h = rw (order, step-none count first last t.named h) refl
 
-    module _ (h : eqb f.id 0x12 ≡ true) where
+    module _ (k : ℕ) (h : Some k ≡ f.step) where
       is-12 : (entry (map_of count first last) e).id ≡ 0x12
-      is-12 = sym (id-is count first last t.named) ∙ eqb→eq f.id 0x12 (from-true h)
+      is-12 = (step-some count first last t.named k h).0
 
       width-12 : f.width ≡ 8
       unfolding row_of width_of
@@ -247,9 +245,9 @@ module _ (count : ℕ) (first last : List ℕ) (b : Bank) (e i : ℕ) where
       pub weight-spot : Spot b 2 f.offset 0 8 i
       weight-spot = rw width-12 at (spot-there count first last b t (publish-there count first last b t))
 
-      pub weight-is : number (weight_of f.step (number_by true (bits_at b 2 f.offset 0 8 i))) ≡ weight_call count first last b e i
+      pub weight-is : number (weight_of k (number_by true (bits_at b 2 f.offset 0 8 i))) ≡ weight_call count first last b e i
       unfolding weight_call
       weight-is =
           let z : number_by true (bits_at b 2 f.offset 0 8 i) ≡ number_in (map_of count first last) b 2 e 0 i
           = rw (signed-12, width-12) at (number-there count first last b t (publish-there count first last b t)) in
-          rw (order, h, step-is count first last t.named is-12) (ap (λ v. number (weight_of (entry (map_of count first last) e).step v)) z)
+          rw (order, eq-eqb _ 0x12 is-12, (step-some count first last t.named k h).1) (ap (λ v. number (weight_of (entry (map_of count first last) e).step v)) z)

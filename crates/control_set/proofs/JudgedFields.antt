@@ -8,6 +8,7 @@ use borrow.Author.Tests.{le-leb}
 use lib.ListN.{length}
 use lib.Arith.{digits_lt}
 use Rattle.rules.specs.declared.Entry.{Entry}
+use Rattle.rules.specs.Numbers.{bit_of}
 use Rattle.rules.specs.Parameter.{row_of}
 use Rattle.rules.specs.Descriptor.{mask_bytes, entry_at}
 use Rattle.rules.specs.Place.{parts_of, width_of, signed_of, Width}
@@ -18,12 +19,12 @@ use Rattle.rules.proofs.Basics.Any.{any-ext}
 use Rattle.rules.proofs.Place.Lanes.{lane-byte-lt}
 use Rattle.descriptor.specs.declared.Range.{Range}
 use Rattle.descriptor.specs.Rows.{is_limited}
-use Rattle.descriptor.specs.Find.{low_of, high_of, named_of}
+use Rattle.descriptor.specs.Find.{low_of, high_of}
 use Rattle.descriptor.specs.Reading.{has_patterns, patterns_of, patterns_by, range_by}
-use Rattle.descriptor.proofs.Judges.{judged-none, judged-patterns, judged-range, judged-narrow, judged-wide, patterns-any, range-any}
+use Rattle.descriptor.proofs.Judges.{judged-none, judged-patterns, judged-range, judged-wide, patterns-any, range-any}
 use Rattle.control_set.specs.declared.judge.Fields.{Fields}
 use Rattle.control_set.specs.Field.{Spot, bits_at}
-use Rattle.control_set.specs.Plan.{in_range, fields_of, Placed, ByPatterns, Stands, refused_at, refused_in, unlisted_in, outside_in}
+use Rattle.control_set.specs.Plan.{in_range, fields_of, Placed, Stands, refused_at, refused_in, passing}
 use Rattle.control_set.proofs.LaneMasks.{any-clear}
 use Rattle.control_set.proofs.Spots.{bits-at-lt}
 use Rattle.control_set.proofs.Values.{number-byte}
@@ -48,8 +49,8 @@ module _ (e : Entry) (some : 0 < parts_of e) (s : ℕ) (b : Bank) (i : ℕ) wher
   small : (p : ℕ) → bits p < 2 ^ width_of e
   small p = bits-at-lt b s e.offset p (width_of e) i
 
-  patterns-refused : has_patterns (width_of e) ≡ true → unlisted_in s (fields_of e) b (patterns_of e) i ≡ refused_in s e b i
-  unfolding unlisted_in refused_in refused_at
+  patterns-refused : has_patterns (width_of e) ≡ true → passing s (fields_of e) b (λ n. not (bit_of (patterns_of e) n)) i ≡ refused_in s e b i
+  unfolding passing refused_in refused_at
   patterns-refused h = any-ext (parts_of e) _ _ λ p _. ap not (sym (judged-patterns e (bits p) some (small p) h))
 
   module _ (q : has_patterns (width_of e) ≡ false) where
@@ -60,14 +61,14 @@ module _ (e : Entry) (some : 0 < parts_of e) (s : ℕ) (b : Bank) (i : ℕ) wher
     abbrev range : Range
     range = record { low = low_of (row_of e.id).values e; high = high_of (row_of e.id).values e }
 
-    lies : is_limited (row_of e.id).values ≡ true → (p : ℕ) → in_range range (bits_at b s e.offset p 8 i) ≡ accepts e (from_bits (signed_of e) (width_of e) (bits p))
+    lies : is_limited (row_of e.id).values ≡ true → (p : ℕ) → in_range range (bits p) ≡ accepts e (from_bits (signed_of e) (width_of e) (bits p))
     lies h p =
         let k = judged-wide e q h in
         let l : bits p < 256 = omega (arith, small p, ap (λ (w : ℕ). 2 ^ w) k) in
-        ap (λ (w : ℕ). in_range range (bits_at b s e.offset p w i)) (sym k) ∙ sym (rw (← number-byte (bits p) l) at (judged-range e (bits p) some (small p) q h))
+        sym (rw (← number-byte (bits p) l) at (judged-range e (bits p) some (small p) q h))
 
-    range-refused : is_limited (row_of e.id).values ≡ true → outside_in s (fields_of e) b range i ≡ refused_in s e b i
-    unfolding outside_in refused_in refused_at
+    range-refused : is_limited (row_of e.id).values ≡ true → passing s (fields_of e) b (λ n. not (in_range range n)) i ≡ refused_in s e b i
+    unfolding passing refused_in refused_at
     range-refused h = any-ext (parts_of e) _ _ λ p _. ap not (lies h p)
 
 -- where it stands
@@ -88,11 +89,6 @@ module _ {count : ℕ} {s : List ℕ} {start x : ℕ} {f : Fields} (h : Stands c
   ranged : (t : Bool) → is_limited (row_of x).values ≡ t → is_limited (row_of here.id).values ≡ t
   ranged t q = rw h.id q
 
-  pub by-narrow : has_patterns f.width ≡ true → ByPatterns f
-  by-narrow q =
-      let n = judged-narrow here (patterned true q) in
-      record { single = rw (width, parts) at n.0; four = rw width at n.1 }
-
   pub by-wide : has_patterns f.width ≡ false → is_limited (row_of x).values ≡ true → f.width ≡ 8
   by-wide p q = sym width ∙ judged-wide here (patterned false p) (ranged true q)
 
@@ -100,14 +96,14 @@ module _ {count : ℕ} {s : List ℕ} {start x : ℕ} {f : Fields} (h : Stands c
     held : 0 < parts_of here
     held = rw parts some
 
-    pub by-patterns : has_patterns f.width ≡ true → unlisted_in set f b (patterns_by count s start) i ≡ refused_in set here b i
+    pub by-patterns : has_patterns f.width ≡ true → passing set f b (λ n. not (bit_of (patterns_by count s start) n)) i ≡ refused_in set here b i
     unfolding patterns_by
     by-patterns q =
         rw (le-leb start 120 h.low, patterns-any (mask_bytes count) s start 0 f.offset)
         (rw h.fields at (patterns-refused here held set b i (patterned true q)))
 
-    pub by-range : has_patterns f.width ≡ false → is_limited (row_of x).values ≡ true → outside_in set f b (range_by count s start) i ≡ refused_in set here b i
-    unfolding range_by named_of
+    pub by-range : has_patterns f.width ≡ false → is_limited (row_of x).values ≡ true → passing set f b (λ n. not (in_range (range_by count s start) n)) i ≡ refused_in set here b i
+    unfolding range_by
     by-range p q =
         let (low, high) = range-any (mask_bytes count) s start 0 f.offset in
         rw (le-leb start 120 h.low, low, high)

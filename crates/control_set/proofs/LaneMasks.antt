@@ -14,6 +14,7 @@ use lib.Dec.{T, eqb, ltb, ltb→lt, eqb→eq}
 use lib.ListN.{length, get_or, set, length-set}
 use lib.Seq.{get_or-set_same, get_or-set_other}
 use lib.Pow.{pow_pos, pow-add, high, low, shl_exact, shr-shr}
+use lib.Count.{count_trailing_zeros}
 use Rattle.rules.specs.Numbers.{cut, any, bit_of, lowest}
 use Rattle.rules.specs.Place.{lane_byte, lane_bit, Width}
 use Rattle.rules.specs.Refuse.{chooses}
@@ -35,20 +36,23 @@ bit-is : (v : Bool) → eqb (cond v 1 0) 1 ≡ v
 bit-is true = refl
 bit-is false = refl
 
+-- what holds of each lane below k and whether it is in a mask, and of k by a test, holds of the mask with k by that test
 pub lanes-next :
-    (k : ℕ) (f : ℕ → Bool) (lanes : ℕ) (v : Bool)
-    → Lanes k f lanes
+    (P : ℕ → Bool → Type 0) (k lanes : ℕ) (v : Bool)
+    → ((i : ℕ) → 1 ≤ i → i < k → P i (chooses lanes i))
     → 1 ≤ k
-    → k ≤ 8
-    → v ≡ f k
-    → Lanes (k + 1) f (merge lanes (k - 1) 1 (cond v 1 0))
-lanes-next k f lanes v h l u q i li ui = go (ℕ_discrete i k)
+    → P k v
+    → (i : ℕ) → 1 ≤ i → i < k + 1 → P i (chooses (merge lanes (k - 1) 1 (cond v 1 0)) i)
+lanes-next P k lanes v h l q i li ui = go (ℕ_discrete i k)
   where
-    go : Dec (i ≡ k) → chooses (merge lanes (k - 1) 1 (cond v 1 0)) i ≡ f i
-    go (yes e) = rw e (ap (λ n. eqb n 1) (cut-merge lanes (k - 1) 1 (cond v 1 0) (bit-lt v)) ∙ bit-is v ∙ q)
+    go : Dec (i ≡ k) → P i (chooses (merge lanes (k - 1) 1 (cond v 1 0)) i)
+    go (yes e) =
+        let r : chooses (merge lanes (k - 1) 1 (cond v 1 0)) k ≡ v = ap (λ n. eqb n 1) (cut-merge lanes (k - 1) 1 (cond v 1 0) (bit-lt v)) ∙ bit-is v in
+        rw (e, r) q
     go (no ne) =
-        ap (λ n. eqb n 1) (cut-merge-other lanes (k - 1) 1 (cond v 1 0) (bit-lt v) (i - 1) 1 (inr (omega arith)))
-        ∙ h i li (omega arith)
+        let r : chooses (merge lanes (k - 1) 1 (cond v 1 0)) i ≡ chooses lanes i
+        = ap (λ n. eqb n 1) (cut-merge-other lanes (k - 1) 1 (cond v 1 0) (bit-lt v) (i - 1) 1 (inr (omega arith))) in
+        rw r (h i li (omega arith))
 
 -- the lanes of both masks, and of one of them
 module _ {f g : ℕ → Bool} (a b : ℕ) (p : Lanes 9 f a) (q : Lanes 9 g b) where
@@ -90,18 +94,21 @@ lowest-none (suc n) i f s h j l u =
 pub lanes-clear : (f : ℕ → Bool) → lowest 8 1 f ≡ 0 → NoLane f
 lanes-clear f h i l u = lowest-none 8 1 f (omega arith) h i l (omega arith)
 
--- the lowest lane from k on
-module _ (k : ℕ) (f : ℕ → Bool) (l : k < 9) where
-  last : 9 - k ≡ suc (9 - suc k)
-  last = omega arith
+-- it is the place of the mask's lowest 1: a test that computes, of each mask but 0
+abbrev lowest_at : ℕ → Bool
+lowest_at m = eqb (lowest 8 1 (chooses (suc m))) (suc (count_trailing_zeros 8 (suc m)))
 
-  pub lowest-here : f k ≡ true → lowest (9 - k) k f ≡ k
-  unfolding lowest
-  lowest-here h = rw (last, h) refl
+lowest-by-test : T (below 255 lowest_at)
+unfolding lowest count_trailing_zeros
+lowest-by-test = tt
 
-  pub lowest-next : f k ≡ false → lowest (9 - k) k f ≡ lowest (9 - (k + 1)) (k + 1) f
-  unfolding lowest
-  lowest-next h = rw (last, h, add-one k) refl
+pub lowest-trailing : (lanes : ℕ) → lanes ≢ 0 → lanes < 256 → lowest 8 1 (chooses lanes) ≡ suc (count_trailing_zeros 8 lanes)
+lowest-trailing zero ne l = absurd (ne refl)
+lowest-trailing (suc m) ne l = eqb→eq _ _ (below-at 255 lowest_at lowest-by-test m (omega arith))
+
+pub lowest-zero : lowest 8 1 (chooses 0) ≡ 0
+unfolding lowest
+lowest-zero = refl
 
 -- a lane's field, by the byte of the part that it lies in
 pub spread-lane :

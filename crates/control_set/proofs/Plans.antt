@@ -1,21 +1,26 @@
 -- The plan byte by byte, part by part and entry by entry.
-use mathlib.Core.Path.{◌≡◌, refl, sym, ◌∙◌}
+use mathlib.Core.Path.{◌≡◌, refl, sym, ap, ◌∙◌}
 use mathlib.Core.Logic.{◌⊎◌, inl, inr}
 use mathlib.Core.Bool.{Bool, true, false, ◌||◌, cond}
-use mathlib.Core.List.{List}
-use Prim.Native.Nat.{ℕ, zero, suc, ◌+◌, ◌-◌, ◌*◌, ◌/◌, ◌^◌, ◌≤◌, ◌<◌}
-use native.Mathlib.Nat.{suc-mul, div-eq_of_lt, zero-div, mul-le-mul_right}
+use mathlib.Core.List.{List, ◌++◌}
+use Prim.Native.Nat.{ℕ, zero, suc, ◌+◌, ◌-◌, ◌*◌, ◌/◌, ◌%◌, ◌^◌, ◌≤◌, ◌<◌}
+use native.Mathlib.Nat.{suc-mul, div-eq_of_lt, div-one, zero-div}
 use native.Mathlib.Omega.{arith}
 use native.Mathlib.Numerals.{add-one}
 use native.Mathlib.Decide.{ℕ_discrete, dec_lt}
+use borrow.Rule.Slice.PartMut.{put_mid, post_of, same_len_mid}
 use lib.Arith.{digits_lt}
 use lib.Bits.{bit_and, bit_or}
 use lib.Pow.{pow_mono}
-use lib.ListN.{length, get_or, replicate}
+use lib.ListN.{length, get_or, replicate, take, drop, length-take, length-drop}
+use lib.Seq.{get_or-take, get_or-drop}
+use Rattle.std.specs.Int.{w64, to_le_bytes}
+use Rattle.std.proofs.lemmas.List.{get_or_append_left, get_or-append_right}
 use Rattle.rules.specs.Numbers.{cut, any}
 use Rattle.rules.specs.Place.{lane_byte, lane_bit, Width}
 use Rattle.rules.specs.Refuse.{chooses}
 use Rattle.rules.specs.Bank.{Bank, app_sel_in}
+use Rattle.rules.proofs.Basics.Digits.{cut-lt}
 use Rattle.rules.proofs.Basics.Tests.{and-no}
 use Rattle.rules.proofs.Place.Lanes.{lane-byte-lt}
 use Rattle.control_set.specs.declared.plan.Chosen.{Chosen}
@@ -24,7 +29,7 @@ use Rattle.rules.specs.declared.Entry.{Entry}
 use Rattle.control_set.specs.declared.judge.Fields.{Fields}
 use Rattle.control_set.specs.Field.{byte_in}
 use Rattle.control_set.specs.Lanes.{Lanes, Spreads}
-use Rattle.control_set.specs.Plan.{fields_of, Arranged, copies_by, has_one_of, refused_in, refused_among, Cached, Laid, Parts, Planned}
+use Rattle.control_set.specs.Plan.{fields_of, Arranged, copies_by, has_one_of, refused_in, refused_among, AllBytes, Cached, Laid, Parts, Planned}
 use Rattle.control_set.proofs.LaneMasks.{spread-lane, spreads-all-zero, lanes-zero, lanes-and, lanes-or}
 
 or-false : (t : Bool) → (t || false) ≡ t
@@ -35,6 +40,56 @@ pub no-bits : (n k : ℕ) → get_or {A = ℕ} (replicate n 0) k 0 ≡ 0
 no-bits zero k = refl
 no-bits (suc n) zero = refl
 no-bits (suc n) (suc k) = no-bits n k
+
+-- the eight bytes of some bits, written from one on
+byte : (bits j : ℕ) → j < 8 → get_or (to_le_bytes w64 bits) j 0 ≡ cut bits (8 * j) 8
+byte bits zero h = ap (λ (n : ℕ). n % 256) (sym (div-one bits))
+byte bits (suc zero) h = refl
+byte bits (suc (suc zero)) h = refl
+byte bits (suc (suc (suc zero))) h = refl
+byte bits (suc (suc (suc (suc zero)))) h = refl
+byte bits (suc (suc (suc (suc (suc zero))))) h = refl
+byte bits (suc (suc (suc (suc (suc (suc zero)))))) h = refl
+byte bits (suc (suc (suc (suc (suc (suc (suc zero))))))) h = refl
+byte bits (suc (suc (suc (suc (suc (suc (suc (suc j)))))))) h = absurd (omega arith)
+
+pub laid : (at bits : ℕ) (old new : List ℕ) → at + 8 ≤ length old → new ≡ to_le_bytes w64 bits → Laid 8 at bits old (put_mid at 8 old new)
+laid at bits old new room is =
+    record {
+      size = same_len_mid at 8 old new (size ∙ sym (simp (length-take, length-drop) (omega arith)));
+      small = λ b k. small b k (dec_lt k at) (dec_lt k (at + 8));
+      here = here;
+      rest = rest;
+    }
+  where
+    size : length new ≡ 8
+    size = ap length is
+
+    first : length (take at old) ≡ at
+    first = simp length-take (omega arith)
+
+    here : (j : ℕ) → j < 8 → get_or (put_mid at 8 old new) (at + j) 0 ≡ cut bits (8 * j) 8
+    here j h =
+        let e : at + j - at ≡ j = omega arith in
+        get_or-append_right (take at old) (new ++ post_of at 8 old) at (at + j) 0 first (omega arith)
+        ∙ rw (e, get_or_append_left new (post_of at 8 old) 0 j (omega (arith, size)), is) (byte bits j h)
+
+    rest : (k : ℕ) → (k < at) ⊎ (at + 8 ≤ k) → get_or (put_mid at 8 old new) k 0 ≡ get_or old k 0
+    rest k (inl l) = get_or_append_left (take at old) (new ++ post_of at 8 old) 0 k (omega (arith, first)) ∙ get_or-take at old k 0 l
+    rest k (inr l) =
+        let e : at + (8 + (k - at - 8)) ≡ k = omega arith in
+        get_or-append_right (take at old) (new ++ post_of at 8 old) at k 0 first (omega arith)
+        ∙ get_or-append_right new (post_of at 8 old) 8 (k - at) 0 size (omega arith)
+        ∙ get_or-drop 8 (drop at old) (k - at - 8) 0
+        ∙ get_or-drop at old (8 + (k - at - 8)) 0
+        ∙ ap (λ (n : ℕ). get_or old n 0) e
+
+    small : AllBytes old → (k : ℕ) → Dec (k < at) → Dec (k < at + 8) → get_or (put_mid at 8 old new) k 0 < 256
+    small b k (yes l) d = rw (rest k (inl l)) (b k)
+    small b k (no l) (no u) = rw (rest k (inr (omega arith))) (b k)
+    small b k (no l) (yes u) =
+        let e : at + (k - at) ≡ k = omega arith in
+        rw (← e, here (k - at) (omega arith)) (cut-lt bits (8 * (k - at)) 8)
 
 -- a part has no bits past its end
 past-end : (w bits j : ℕ) → bits < 2 ^ (8 * w) → w ≤ j → cut bits (8 * j) 8 ≡ 0
@@ -77,21 +132,6 @@ parts-next {n} {f} {bits} {old} {new} {after} w h r l =
         let e : at + (k - at) ≡ k = omega (arith, next) in
         rw e at (l.here (k - at) (omega (arith, next))) ∙ past-end f.width bits (k - at) h (omega (arith, next))
     behind k u (no b) = l.rest k (inr (omega arith)) ∙ r.behind k (omega (arith, next))
-
--- n of p parts of some bits begin before the end of all; behind it all are laid
-pub part-left : (n p w : ℕ) → n * w < p * w → n < p
-part-left n p w h = go (dec_lt n p)
-  where
-    go : Dec (n < p) → n < p
-    go (yes l) = l
-    go (no l) = let u : p * w ≤ n * w = mul-le-mul_right w (omega arith) in absurd (omega arith)
-
-pub parts-left : (n p w : ℕ) → 0 < w → n ≤ p → p * w ≤ n * w → n ≡ p
-parts-left n p w s l h = go (ℕ_discrete n p)
-  where
-    go : Dec (n ≡ p) → n ≡ p
-    go (yes e) = e
-    go (no ne) = let u : suc n * w ≤ p * w = mul-le-mul_right w (omega arith) in absurd (omega (arith, suc-mul n w))
 
 -- entry by entry
 pub planned-none : (c : Chosen) (h : ℕ → Entry) (b : Bank) (plan : List ℕ) → length plan ≡ 264 → ((k : ℕ) → get_or plan k 0 ≡ 0) → Planned c 0 h b plan

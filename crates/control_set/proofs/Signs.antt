@@ -1,14 +1,15 @@
 -- Numbers and their bits as the code computes them, and how far from 0 a weight can be.
-use mathlib.Core.Path.{◌≡◌, refl}
+use mathlib.Core.Path.{◌≡◌, refl, ap}
 use mathlib.Core.Bool.{Bool, true, false}
 use Prim.Native.Nat.{ℕ, zero, suc, ◌-◌, ◌*◌, ◌^◌, ◌≤◌, ◌<◌}
 use native.Mathlib.Nat.{zero-mul, suc-mul, mul-le-mul}
 use native.Mathlib.Omega.{arith}
-use borrow.Author.Tests.{eq-eqb, le-ltb, ltb-true}
+use borrow.Author.Tests.{eq-eqb}
 use lib.Dec.{T, eqb, eqb→eq, ltb→lt}
-use lib.IntN.{ℤ, pos, negsuc, neg_ℤ, ◌+ℤ◌, ◌*ℤ◌}
+use lib.IntN.{ℤ, pos, negsuc, neg_ℤ, ◌*ℤ◌}
 use lib.Pow.{pow_mono}
-use lib.Signed.{mag, lt_z}
+use lib.Signed.{mag}
+use Rattle.std.specs.Int.{int_rem_euclid}
 use mir.Syntax.{w64}
 use mir.Val.{SFits}
 use Rattle.rules.specs.declared.Entry.{Entry}
@@ -42,15 +43,10 @@ unfolding to_bits
 bits-lt w (pos n) h = h
 bits-lt w (negsuc n) h = omega arith
 
-pub bits-negative : (w : ℕ) (z : ℤ) → InBits w z → lt_z z (pos 0) ≡ true → z +ℤ pos (2 ^ w) ≡ pos (to_bits w z)
+pub bits-euclid : (z : ℤ) → InBits 8 z → int_rem_euclid z (pos 256) ≡ pos (to_bits 8 z)
 unfolding to_bits
-bits-negative w (pos n) f t = absurd (omega (arith, ltb-true n 0 t))
-bits-negative w (negsuc n) f t = rw (le-ltb (2 ^ w) (suc n) (omega arith))
-
-pub bits-positive : (w : ℕ) (z : ℤ) → lt_z z (pos 0) ≡ false → z ≡ pos (to_bits w z)
-unfolding to_bits
-bits-positive w (pos n) t = refl
-bits-positive w (negsuc n) t = let o : ◌≡◌ {A = ℕ} 0 1 = cc in absurd (omega arith)
+bits-euclid (pos n) h = ap pos (omega arith)
+bits-euclid (negsuc n) h = ap pos (omega arith)
 
 pub fits-bits : (g : Bool) (w : ℕ) (z : ℤ) → 0 < w → T (fits g w z) → InBits w z
 unfolding fits

@@ -20,12 +20,12 @@ use Rattle.control_set.specs.Field.{with_bits}
 use Rattle.control_set.specs.Store.{Storable, store_of}
 use Rattle.control_set.proofs.Outcomes.{call-12, call-done}
 use Rattle.control_set.specs.Gate.{Entered}
-use Rattle.control_set.proofs.FieldCalls.{ranged, entered-opened, spot-there, stored-there, value-tested, value-bits}
+use Rattle.control_set.proofs.FieldCalls.{entered-opened, spot-there, stored-there, value-tested, value-bits}
 
 module _ (count : ℕ) (first last : List ℕ) (b : Bank) {e p i : ℕ} {f : Named} (t : Entered count first last (length b) e p i f) where
   pub storable : {s : ℕ} → Field (map_of count first last) s e p i → (v : ℤ) → Storable b s f p i v
   storable x v =
-      record { ranged = ranged count first last b t; spot = spot-there count first last b t x; bits = value-bits count first last b t x v }
+      record { spot = spot-there count first last b t x; bits = value-bits count first last b t x v }
 
   pub call-stores :
       (c : Call) (s : ℕ) (v : ℤ)

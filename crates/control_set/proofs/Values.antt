@@ -1,44 +1,18 @@
--- What the code's tests of values compute.
+-- The number of a field's bits is the rules'.
 use mathlib.Core.Path.{◌≡◌, refl}
-use mathlib.Core.Bool.{Bool, true, false, ◌&&◌, cond}
-use Prim.Native.Nat.{ℕ, suc, ◌-◌, ◌/◌, ◌^◌, ◌≤◌, ◌<◌}
+use mathlib.Core.Bool.{Bool, true, false, cond}
+use Prim.Native.Nat.{ℕ, suc, ◌-◌, ◌^◌, ◌<◌}
 use native.Mathlib.Decide.{dec_lt}
 use native.Mathlib.Omega.{arith}
-use borrow.Author.Tests.{lt-ltb, le-ltb, lt-leb, le-leb, leb-true}
-use lib.IntN.{ℤ, pos, negsuc, nat_abs, ◌-ℤ◌}
-use lib.Signed.{le_z, non_neg}
-use lib.Dec.{T, ltb, leb, eqb}
-use lib.Bits.{bit_and, and_mask}
+use borrow.Author.Tests.{lt-ltb, le-ltb, lt-leb, le-leb}
+use lib.IntN.{pos, negsuc, ◌-ℤ◌}
+use lib.Dec.{ltb, leb}
 use Rattle.rules.specs.declared.Entry.{Entry}
 use Rattle.rules.specs.Parameter.{row_of}
 use Rattle.rules.specs.Place.{width_of, signed_of}
-use Rattle.rules.specs.Accept.{in_mask, from_bits}
-use Rattle.descriptor.specs.Find.{named_of}
-use Rattle.descriptor.proofs.Accepts.{signed-byte, coded-ends}
-use Rattle.control_set.specs.Values.{CodesLow, number_by}
-
--- a code of 4 bits is the number of a bit
-pub record Bit (v : ℤ) : Type 0 where
-  pub low : T (non_neg v)
-  pub top : nat_abs v < 64
-
-pub code-bit : (v : ℤ) → (le_z (pos 0) v && le_z v (pos 15)) ≡ true → Bit v
-code-bit (pos n) t = let l : n ≤ 15 = leb-true n 15 (from (leb 0 n) (leb n 15) t) in record { low = tt; top = omega arith }
-  where
-    from : (a b : Bool) → (a && b) ≡ true → b ≡ true
-    from true b q = q
-    from false b q = let o : ◌≡◌ {A = ℕ} 0 1 = cc in absurd (omega arith)
-code-bit (negsuc n) t = let o : ◌≡◌ {A = ℕ} 0 1 = cc in absurd (omega arith)
-
-pub codes-bit : (mask : ℕ) (v : ℤ) → T (non_neg v) → eqb (bit_and (mask / 2 ^ nat_abs v) 1) 1 ≡ in_mask mask v
-unfolding in_mask
-codes-bit mask (pos n) h = rw (and_mask (mask / 2 ^ n) 1)
-codes-bit mask (negsuc n) h = absurd h
-
--- what a call needs of an entry has the range of its codes
-pub named-ranged : (in_ro : Bool) (e : Entry) → let f = named_of in_ro e in CodesLow f.low f.high f.coded
-unfolding named_of
-named-ranged in_ro e h = coded-ends e h
+use Rattle.rules.specs.Accept.{from_bits}
+use Rattle.descriptor.proofs.Accepts.{signed-byte}
+use Rattle.control_set.specs.Values.{number_by}
 
 unsigned : (w n : ℕ) → pos n ≡ from_bits false w n
 unfolding from_bits

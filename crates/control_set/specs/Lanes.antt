@@ -1,5 +1,5 @@
 -- Masks of lanes, and their bits spread over a part.
-use Rattle.std.specs.Prelude.{◌≡◌, Bool, false, cond, List, ℕ, ◌-◌, ◌*◌, ◌^◌, ◌≤◌, ◌<◌, length, get_or}
+use Rattle.std.specs.Prelude.{◌≡◌, Bool, false, cond, Option, None, Some, List, ℕ, zero, suc, ◌-◌, ◌*◌, ◌^◌, ◌≤◌, ◌<◌, length, get_or}
 use Rattle.rules.specs.Numbers.{cut}
 use Rattle.rules.specs.Place.{Width}
 use Rattle.rules.specs.Refuse.{chooses}
@@ -11,6 +11,11 @@ Lanes k f lanes = (i : ℕ) → 1 ≤ i → i < k → chooses lanes i ≡ f i
 -- f is true of no lane
 abbrev pub NoLane : (ℕ → Bool) → Type 0
 NoLane f = (i : ℕ) → 1 ≤ i → i ≤ 8 → f i ≡ false
+
+-- the lane that a search found, which is 0 where it found none
+abbrev pub lane_at : ℕ → Option ℕ
+lane_at zero = None
+lane_at (suc n) = Some (suc n)
 
 -- a part whose fields are all ones in the lanes of a mask, and 0 in the others
 pub record Spreads (w lanes bits : ℕ) : Type 0 where

@@ -1,7 +1,6 @@
 -- Apply, entry by entry: which lanes it copies, which hold a value not accepted, the plan of the bits that are copied, and the copy.
 use Rattle.std.specs.Prelude.{◌≡◌, ◌⊎◌, ◌≢◌, Bool, true, false, ◌&&◌, not, cond, List, ℕ, suc, ◌+◌, ◌-◌, ◌*◌, ◌^◌, ◌≤◌, ◌<◌, length, get_or}
 use Rattle.std.specs.Int.Bits.{bit_and, bit_or}
-use Rattle.std.specs.Int.Signed.{le_z}
 use Rattle.rules.specs.declared.Entry.{Entry}
 use Rattle.rules.specs.Descriptor.{is_app, has_app, mask_bytes, entry_at}
 use Rattle.rules.specs.Load.{rw_entries}
@@ -14,14 +13,14 @@ use Rattle.rules.specs.Bank.{Bank, app_sel_in}
 use Rattle.descriptor.specs.declared.Range.{Range}
 use Rattle.descriptor.specs.declared.search.Mark.{Mark}
 use Rattle.descriptor.specs.Rows.{classes, shapes}
-use Rattle.descriptor.specs.Find.{named_of}
+use Rattle.descriptor.specs.Find.{named_of, in_range as has_number}
 use Rattle.descriptor.specs.Marks.{mark_after}
 use Rattle.descriptor.specs.Reading.{read_by}
 use Rattle.control_set.specs.declared.judge.Fields.{Fields}
 use Rattle.control_set.specs.declared.plan.Chosen.{Chosen}
 use Rattle.control_set.specs.declared.plan.Last.{Last}
 use Rattle.control_set.specs.Field.{byte_in, bits_at}
-use Rattle.control_set.specs.Lanes.{Lanes, SpreadsAll}
+use Rattle.control_set.specs.Lanes.{Lanes, NoLane, SpreadsAll}
 use Rattle.control_set.specs.Values.{number_by}
 
 -- a staged set, and a bank for it
@@ -65,6 +64,11 @@ pub record Walk (count : ℕ) (rw : List ℕ) (n : ℕ) : Type 0 where
 abbrev pub lacks_by : Chosen → Bank → ℕ → Bool
 lacks_by c b i = chooses c.lanes i && not (is_app c.count (app_sel_in b c.set i))
 
+-- 13 refuses no lane
+pub record Served (c : Chosen) (b : Bank) : Type 0 where
+  pub asked : Asked c b
+  pub apps : NoLane (lacks_by c b)
+
 abbrev pub copies_by : Chosen → ℕ → Bank → ℕ → Bool
 copies_by c mask b i = chooses c.lanes i && has_app c.count mask (app_sel_in b c.set i)
 
@@ -86,27 +90,13 @@ refused_in s e b i = any (parts_of e) λ p. refused_at s e b p i
 unfoldable pub refused_among : Chosen → ℕ → (ℕ → Entry) → Bank → ℕ → Bool
 refused_among c n h b i = any n λ e. copies_by c (h e).mask b i && refused_in c.set (h e) b i
 
--- a field that holds none of some patterns, in one of an entry's parts
-abbrev pub unlisted : ℕ → Fields → Bank → ℕ → ℕ → ℕ → Bool
-unlisted s f b patterns p i = not (bit_of patterns (bits_at b s f.offset p f.width i))
+-- a field whose bits pass a test, in one of an entry's parts
+unfoldable pub passing : ℕ → Fields → Bank → (ℕ → Bool) → ℕ → Bool
+passing s f b test i = any f.parts λ p. test (bits_at b s f.offset p f.width i)
 
-unfoldable pub unlisted_in : ℕ → Fields → Bank → ℕ → ℕ → Bool
-unlisted_in s f b patterns i = any f.parts λ p. unlisted s f b patterns p i
-
--- a signed byte in a range; a field that holds one outside, in one of an entry's parts
+-- a signed byte in a range
 abbrev pub in_range : Range → ℕ → Bool
-in_range r n = le_z r.low (number_by true n) && le_z (number_by true n) r.high
-
-abbrev pub outside : ℕ → Fields → Bank → Range → ℕ → ℕ → Bool
-outside s f b r p i = not (in_range r (bits_at b s f.offset p 8 i))
-
-unfoldable pub outside_in : ℕ → Fields → Bank → Range → ℕ → Bool
-outside_in s f b r i = any f.parts λ p. outside s f b r p i
-
--- fields that are judged by patterns: of 2 bits a lane, in one part, or of 4
-pub record ByPatterns (f : Fields) : Type 0 where
-  pub single : f.width ≡ 2 → f.parts ≡ 1
-  pub four : f.width ≢ 2 → f.width ≡ 4
+in_range r n = has_number r (number_by true n)
 
 -- the entry at a place has this ID and these fields
 pub record Stands (count : ℕ) (s : List ℕ) (start x : ℕ) (f : Fields) : Type 0 where

@@ -5,11 +5,9 @@ use Rattle.rules.specs.Bank.{Bank}
 use Rattle.descriptor.specs.declared.Named.{Named}
 use Rattle.descriptor.specs.Find.{accepted_by}
 use Rattle.control_set.specs.Field.{Spot, InBits, with_bits}
-use Rattle.control_set.specs.Values.{CodesLow}
 
 -- a field of an entry whose accepted values have its bits
 pub record Storable (b : Bank) (s : ℕ) (f : Named) (p i : ℕ) (v : ℤ) : Type 0 where
-  pub ranged : CodesLow f.low f.high f.coded
   pub spot : Spot b s f.offset p f.width i
   pub bits : accepted_by f v ≡ true → InBits 8 v × (to_bits 8 v ≡ to_bits f.width v) × (to_bits f.width v < 2 ^ f.width)
 

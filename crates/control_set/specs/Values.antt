@@ -1,9 +1,5 @@
--- What the code's tests of values take and compute.
-use Rattle.std.specs.Prelude.{◌≡◌, Bool, true, ◌&&◌, cond, ℕ, ℤ, pos, ◌-ℤ◌, leb}
-
--- codes are numbers of 4 bits
-abbrev pub CodesLow : ℤ → ℤ → Bool → Type 0
-CodesLow low high coded = coded ≡ true → (low ≡ pos 0) × (high ≡ pos 15)
+-- The number of a field's bits.
+use Rattle.std.specs.Prelude.{Bool, ◌&&◌, cond, ℕ, ℤ, pos, ◌-ℤ◌, leb}
 
 -- the number that the bits of a field stand for, in two's complement of a byte if signed
 abbrev pub number_by : Bool → ℕ → ℤ

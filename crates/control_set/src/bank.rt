@@ -41,7 +41,8 @@ pub fn app_sel_at(set: usize, lane: usize) -> usize
     app_sel_start(set) + (lane - 1)
 }
 
-// The bits of a field.
+// The bits of a field. Five numbers say where it is, and no struct: each call has two of an entry and three of its caller's, and would make
+// one of these for a single use.
 pub fn read_field(
     bank: &[u8],
     set: usize,

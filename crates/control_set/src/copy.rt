@@ -18,17 +18,15 @@ fn put_bits(active: &mut [u8], at: usize, mask: u8, staged: u8)
 // Bytes of a set in one block, which the compiler merges by a few wide moves.
 const BLOCK: usize = 32;
 
-// One block of the set, from a byte on, in a bank whose active set is merged up to that byte.
+// One block of the set, from a byte on, in a bank whose active set is merged up to that byte. Places and no `iter_mut().zip()`: of a slice
+// that was changed through these a proof knows the length alone.
 fn copy_block(staged: usize, from: usize, plan: &[u8; 264], bank: &mut [u8])
     requires { (staged < 2) × (from + 32 ≤ 256) × (bank_size ≤ length bank.old) }
     ensures { (b : Bank) → Merged from staged plan.now b bank.old → Merged (from + 32) staged plan.now b bank.new }
 {
-    let mut k = 0;
-    while k < BLOCK {
-        let at = from + k;
+    for at in from..from + BLOCK {
         let byte = bank[byte_of(staged, at)];
         put_bits(&mut bank[ACTIVE_START..ACTIVE_END], at, plan[at], byte);
-        k += 1;
     }
 }
 
@@ -38,9 +36,7 @@ pub fn copy_planned(staged: usize, size: usize, plan: &[u8; 264], bank: &mut [u8
     requires none { (k : ℕ) → size ≤ k → get_or plan.now k 0 ≡ 0 }
     ensures { Merged 256 staged plan.now bank.old bank.new }
 {
-    let mut block = 0;
-    while BLOCK * block < size {
+    for block in 0..size.div_ceil(BLOCK) {
         copy_block(staged, BLOCK * block, plan, bank);
-        block += 1;
     }
 }

@@ -1,17 +1,25 @@
-// Masks of lanes: bit i − 1 for lane i.
-ghost use Rattle.std.specs.Prelude.{◌≡◌, cond, ◌-◌, ◌≤◌, length};
-ghost use Rattle.rules.specs.Numbers.{lowest};
+// Masks, and those of lanes: bit i − 1 for lane i.
+ghost use Rattle.std.specs.Prelude.{◌≡◌, cond, ℕ, ◌-◌, ◌≤◌, ◌<◌, length};
+ghost use Rattle.rules.specs.Numbers.{bit_of, lowest};
 ghost use Rattle.rules.specs.Refuse.{chooses};
 ghost use Rattle.rules.specs.Bank.{merge};
-ghost use Rattle.control_set.specs.Lanes.{SpreadsAll};
+ghost use Rattle.control_set.specs.Lanes.{lane_at, SpreadsAll};
 
 use crate::field::merged;
+
+// Whether a mask has a bit.
+pub fn has_bit(mask: usize, bit: usize) -> bool
+    requires { bit < 64 }
+    ensures { result ≡ bit_of mask bit }
+{
+    (mask >> bit) & 1 == 1
+}
 
 pub fn has_lane(lanes: u8, lane: usize) -> bool
     requires { (1 ≤ lane) × (lane ≤ 8) }
     ensures { result ≡ chooses lanes lane }
 {
-    (lanes >> (lane - 1)) & 1 == 1
+    has_bit(lanes as usize, lane - 1)
 }
 
 // The mask with a lane in it or not.
@@ -22,21 +30,26 @@ pub fn with_lane(lanes: u8, lane: usize, has: bool) -> u8
     merged(lanes, lane - 1, 1, has as u8)
 }
 
-// The lowest lane of a mask, else 0.
-pub fn lowest_lane(lanes: u8) -> usize
-    ensures { result ≡ lowest 8 1 (chooses lanes) }
+// The mask of the lanes that a test is true of.
+pub fn lanes_where<F: Fn(usize) -> bool>(test: F) -> u8
+    requires { (lane : ℕ) → 1 ≤ lane → lane ≤ 8 → F.pre test lane }
+    ensures { (lane : ℕ) → 1 ≤ lane → lane ≤ 8 → F.post test lane (chooses result lane) }
+{
+    let mut lanes = 0;
+    for lane in 1..9 {
+        lanes = with_lane(lanes, lane, test(lane));
+    }
+    lanes
+}
+
+// The lowest lane of a mask.
+pub fn lowest_lane(lanes: u8) -> Option<usize>
+    ensures { result ≡ lane_at (lowest 8 1 (chooses lanes)) }
 {
     if lanes == 0 {
-        return 0;
+        return None;
     }
-    let mut lane = 1;
-    while lane < 9 {
-        if has_lane(lanes, lane) {
-            return lane;
-        }
-        lane += 1;
-    }
-    0
+    Some(lanes.trailing_zeros() as usize + 1)
 }
 
 // All bits of the fields of four lanes in a mask of these, of 2, 4 and 8 bits a lane.

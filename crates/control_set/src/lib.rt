@@ -9,8 +9,8 @@ ghost use Rattle.rules.specs.Bank.{fresh_bank, fresh_call, bank_call};
 ghost use Rattle.rules.specs.Beside.{weight_call};
 ghost use Rattle.descriptor.specs.Find.{accepted_by};
 ghost use Rattle.control_set.specs.Store.{Storable, store_of};
+ghost use Rattle.descriptor.specs.Lent.{over};
 
-mod accept; // accepted values
 mod bank; // a field of a bank
 mod copy; // apply's copy
 mod field; // a field of a byte
@@ -20,59 +20,52 @@ mod lanes; // masks of lanes
 mod number; // numbers and bits
 mod plan; // 13, 14 and the bits that are copied
 
-use crate::accept::accepts;
 use crate::bank::{app_sel_at, byte_of, read_field, write_field};
 use crate::copy::copy_planned;
 use crate::gate::{admit, admit_byte, admit_field};
 use crate::lanes::lowest_lane;
-use crate::number::{bits_of, number_of, weight_of, wide};
-use crate::plan::{Chosen, lacking, plan_all};
-use descriptor::{Named, limits, load};
-use rules::{Answer, BANK_SIZE, Call, Loaded, Refusal};
+use crate::number::{bits_of, number_of, weight_of};
+use crate::plan::{Chosen, plan_all};
+use descriptor::{Descriptors, Named};
+use rules::{Answer, BANK_SIZE, Call, Field, Loaded, Refusal};
 
 // Clears a bank.
 fn clear(bank: &mut [u8])
     requires { bank_size ≤ length bank.old }
     ensures { bank.new ≡ fresh_bank bank.old }
 {
-    let mut i = 0;
-    while i < BANK_SIZE {
-        bank[i] = 0;
-        i += 1;
-    }
+    bank[..BANK_SIZE].fill(0);
 }
 
 // fresh: clears the bank and answers both entry counts and both lengths.
-pub fn fresh(count: usize, rw: &[u8], ro: &[u8], bank: &mut [u8]) -> Result<Loaded, Refusal>
-    ensures answer { result ≡ (fresh_call count rw.now ro.now bank.old).0 }
-    ensures after { bank.new ≡ (fresh_call count rw.now ro.now bank.old).1 }
+pub fn fresh(desc: Descriptors, bank: &mut [u8]) -> Result<Loaded, Refusal>
+    ensures answer { result ≡ (over fresh_call desc.entry bank.old).0 }
+    ensures after { bank.new ≡ (over fresh_call desc.entry bank.old).1 }
 {
-    let loaded = admit(count, rw, ro, bank.len())?;
+    let loaded = admit(desc, bank.len())?;
     clear(bank);
     Ok(loaded)
 }
 
 // select: stores the AppSel of a lane of a staged set.
 pub fn select(
-    count: usize,
-    rw: &[u8],
-    ro: &[u8],
+    desc: Descriptors,
     bank: &mut [u8],
     set: usize,
     lane: usize,
     app: usize,
 ) -> Result<Answer, Refusal>
-    ensures answer { result ≡ (bank_call count rw.now ro.now (Call.Select set lane app) bank.old).0 }
-    ensures after { bank.new ≡ (bank_call count rw.now ro.now (Call.Select set lane app) bank.old).1 }
+    ensures answer { result ≡ (over bank_call desc.entry (Call.Select set lane app) bank.old).0 }
+    ensures after { bank.new ≡ (over bank_call desc.entry (Call.Select set lane app) bank.old).1 }
 {
-    admit(count, rw, ro, bank.len())?;
+    admit(desc, bank.len())?;
     if !((set < 3) & ((1 <= lane) & (lane <= 8))) {
         return Err(Refusal::Plain(10));
     }
     if set == 2 {
         return Err(Refusal::Plain(11));
     }
-    if count < app {
+    if desc.count < app {
         return Err(Refusal::Plain(12));
     }
     bank[app_sel_at(set, lane)] = app as u8;
@@ -80,14 +73,14 @@ pub fn select(
 }
 
 // A call that sets a number, past 10 and 11: whether the field accepts the value, which it then takes; else it keeps its own.
-fn store(bank: &mut [u8], set: usize, f: Named, part: usize, lane: usize, value: i64) -> bool
-    requires { Storable bank.old set f part lane value }
+fn store(bank: &mut [u8], set: usize, f: Named, field: Field, value: i64) -> bool
+    requires { Storable bank.old set f field.part field.lane value }
     ensures answer { result ≡ accepted_by f value }
-    ensures after { bank.new ≡ store_of bank.old set f part lane value }
+    ensures after { bank.new ≡ store_of bank.old set f field.part field.lane value }
 {
-    if accepts(f.low, f.high, f.coded, f.codes, value) {
+    if f.accepted.has(value) {
         let bits = bits_of(value);
-        write_field(bank, set, f.offset, part, f.width, lane, bits);
+        write_field(bank, set, f.offset, field.part, f.width, field.lane, bits);
         return true;
     }
     false
@@ -95,70 +88,55 @@ fn store(bank: &mut [u8], set: usize, f: Named, part: usize, lane: usize, value:
 
 // write: stores an accepted value in a field of a staged set.
 pub fn write(
-    count: usize,
-    rw: &[u8],
-    ro: &[u8],
+    desc: Descriptors,
     bank: &mut [u8],
     set: usize,
-    entry: usize,
-    part: usize,
-    lane: usize,
+    field: Field,
     value: i64,
 ) -> Result<Answer, Refusal>
-    ensures answer { result ≡ (bank_call count rw.now ro.now (Call.Write set entry part lane value) bank.old).0 }
-    ensures after { bank.new ≡ (bank_call count rw.now ro.now (Call.Write set entry part lane value) bank.old).1 }
+    ensures answer { result ≡ (over bank_call desc.entry (Call.Write set field.entry field.part field.lane value) bank.old).0 }
+    ensures after { bank.new ≡ (over bank_call desc.entry (Call.Write set field.entry field.part field.lane value) bank.old).1 }
 {
-    let f = admit_field(count, rw, ro, bank.len(), entry, part, lane)?;
+    let f = admit_field(desc, bank.len(), field)?;
     if !(set < 3) {
         return Err(Refusal::Plain(10));
     }
     if (set == 2) | f.ro {
         return Err(Refusal::Plain(11));
     }
-    if !store(bank, set, f, part, lane, value) {
+    if !store(bank, set, f, field, value) {
         return Err(Refusal::Plain(12));
     }
     Ok(Answer::Yes)
 }
 
 // read: answers the number of a field.
-pub fn read(
-    count: usize,
-    rw: &[u8],
-    ro: &[u8],
-    bank: &[u8],
-    set: usize,
-    entry: usize,
-    part: usize,
-    lane: usize,
-) -> Result<Answer, Refusal>
-    ensures answer { result ≡ (bank_call count rw.now ro.now (Call.Read set entry part lane) bank.now).0 }
+pub fn read(desc: Descriptors, bank: &[u8], set: usize, field: Field) -> Result<Answer, Refusal>
+    ensures answer { result ≡ (over bank_call desc.entry (Call.Read set field.entry field.part field.lane) bank.now).0 }
 {
-    let f = admit_field(count, rw, ro, bank.len(), entry, part, lane)?;
+    let f = admit_field(desc, bank.len(), field)?;
     if !(set < 3) {
         return Err(Refusal::Plain(10));
     }
     if (set < 2) & f.ro {
         return Err(Refusal::Plain(11));
     }
-    let bits = read_field(bank, set, f.offset, part, f.width, lane);
+    let bits = read_field(bank, set, f.offset, field.part, f.width, field.lane);
     Ok(Answer::Number(number_of(f.signed, bits)))
 }
 
 // byte write: each field in a byte of a staged set takes its own bits; gaps become 0.
 pub fn byte_write(
-    count: usize,
-    rw: &[u8],
-    ro: &[u8],
+    desc: Descriptors,
     bank: &mut [u8],
     set: usize,
     offset: usize,
     value: u8,
 ) -> Result<Answer, Refusal>
-    ensures answer { result ≡ (bank_call count rw.now ro.now (Call.ByteWrite set offset value) bank.old).0 }
-    ensures after { bank.new ≡ (bank_call count rw.now ro.now (Call.ByteWrite set offset value) bank.old).1 }
+    ensures answer { result ≡ (over bank_call desc.entry (Call.ByteWrite set offset value) bank.old).0 }
+    ensures after { bank.new ≡ (over bank_call desc.entry (Call.ByteWrite set offset value) bank.old).1 }
 {
-    let fields = admit_byte(count, rw, ro, bank.len(), set, offset)?;
+    let fields = admit_byte(desc, bank.len(), set, offset)?;
     if set == 2 {
         return Err(Refusal::Plain(11));
     }
@@ -172,65 +150,52 @@ pub fn byte_write(
 
 // byte read: the byte of a set where it has fields; gaps show 0.
 pub fn byte_read(
-    count: usize,
-    rw: &[u8],
-    ro: &[u8],
+    desc: Descriptors,
     bank: &[u8],
     set: usize,
     offset: usize,
 ) -> Result<Answer, Refusal>
-    ensures { result ≡ (bank_call count rw.now ro.now (Call.ByteRead set offset) bank.now).0 }
+    ensures { result ≡ (over bank_call desc.entry (Call.ByteRead set offset) bank.now).0 }
 {
-    let shown = admit_byte(count, rw, ro, bank.len(), set, offset)?;
+    let shown = admit_byte(desc, bank.len(), set, offset)?;
     if shown {
-        return Ok(Answer::Number(wide(bank[byte_of(set, offset)])));
+        return Ok(Answer::Number(i64::from(bank[byte_of(set, offset)])));
     }
     Ok(Answer::Number(0))
 }
 
 // publish: stores an accepted value in a field of an RO entry.
 pub fn publish(
-    count: usize,
-    rw: &[u8],
-    ro: &[u8],
+    desc: Descriptors,
     bank: &mut [u8],
-    entry: usize,
-    part: usize,
-    lane: usize,
+    field: Field,
     value: i64,
 ) -> Result<Answer, Refusal>
-    ensures answer { result ≡ (bank_call count rw.now ro.now (Call.Publish entry part lane value) bank.old).0 }
-    ensures after { bank.new ≡ (bank_call count rw.now ro.now (Call.Publish entry part lane value) bank.old).1 }
+    ensures answer { result ≡ (over bank_call desc.entry (Call.Publish field.entry field.part field.lane value) bank.old).0 }
+    ensures after { bank.new ≡ (over bank_call desc.entry (Call.Publish field.entry field.part field.lane value) bank.old).1 }
 {
-    let f = admit_field(count, rw, ro, bank.len(), entry, part, lane)?;
+    let f = admit_field(desc, bank.len(), field)?;
     if !f.ro {
         return Err(Refusal::Plain(11));
     }
-    if !store(bank, 2, f, part, lane, value) {
+    if !store(bank, 2, f, field, value) {
         return Err(Refusal::Plain(12));
     }
     Ok(Answer::Yes)
 }
 
 // apply: copies the fields of the chosen lanes from a staged set to the active set, all or nothing.
-pub fn apply(
-    count: usize,
-    rw: &[u8],
-    ro: &[u8],
-    bank: &mut [u8],
-    set: usize,
-    lanes: u8,
-) -> Result<Answer, Refusal>
-    ensures answer { result ≡ (bank_call count rw.now ro.now (Call.Apply set lanes) bank.old).0 }
-    ensures after { bank.new ≡ (bank_call count rw.now ro.now (Call.Apply set lanes) bank.old).1 }
+pub fn apply(desc: Descriptors, bank: &mut [u8], set: usize, lanes: u8) -> Result<Answer, Refusal>
+    ensures answer { result ≡ (over bank_call desc.entry (Call.Apply set lanes) bank.old).0 }
+    ensures after { bank.new ≡ (over bank_call desc.entry (Call.Apply set lanes) bank.old).1 }
 {
-    if !limits(count, rw, ro) {
+    if !desc.limits() {
         return Err(Refusal::Plain(9));
     }
     if bank.len() < BANK_SIZE {
         return Err(Refusal::Plain(8));
     }
-    apply_within(count, rw, ro, bank, set, lanes)
+    apply_within(desc.count, desc.rw, desc.ro, bank, set, lanes)
 }
 
 // The same past 9 and 8, one function deeper (see `descriptor::cover`).
@@ -246,7 +211,7 @@ fn apply_within(
     ensures answer { result ≡ (bank_call count rw.now ro.now (Call.Apply set lanes) bank.old).0 }
     ensures after { bank.new ≡ (bank_call count rw.now ro.now (Call.Apply set lanes) bank.old).1 }
 {
-    let loaded = load(count, rw, ro)?;
+    let loaded = (Descriptors { count, rw, ro }).load()?;
     if 2 < set {
         return Err(Refusal::Plain(10));
     }
@@ -254,13 +219,11 @@ fn apply_within(
         return Err(Refusal::Plain(11));
     }
     let chosen = Chosen { count, set, lanes };
-    let none = lowest_lane(lacking(chosen, bank));
-    if none != 0 {
-        return Err(Refusal::AtLane(13, none));
+    if let Some(lane) = lowest_lane(chosen.lacking(bank)) {
+        return Err(Refusal::AtLane(13, lane));
     }
     let mut plan = [0; 264];
-    let bad = lowest_lane(plan_all(chosen, rw, loaded.rw_count, bank, &mut plan));
-    if bad != 0 {
+    if let Some(bad) = lowest_lane(plan_all(chosen, rw, loaded.rw_count, bank, &mut plan)) {
         return Err(Refusal::AtLane(14, bad));
     }
     copy_planned(set, loaded.staged_length, &plan, bank);
@@ -268,58 +231,54 @@ fn apply_within(
 }
 
 // Any of the seven calls.
-pub fn perform(
-    count: usize,
-    rw: &[u8],
-    ro: &[u8],
-    bank: &mut [u8],
-    call: Call,
-) -> Result<Answer, Refusal>
-    ensures answer { result ≡ (bank_call count rw.now ro.now call bank.old).0 }
-    ensures after { bank.new ≡ (bank_call count rw.now ro.now call bank.old).1 }
+pub fn perform(desc: Descriptors, bank: &mut [u8], call: Call) -> Result<Answer, Refusal>
+    ensures answer { result ≡ (over bank_call desc.entry call bank.old).0 }
+    ensures after { bank.new ≡ (over bank_call desc.entry call bank.old).1 }
 {
     match call {
-        Call::Select { set, lane, app } => select(count, rw, ro, bank, set, lane, app),
+        Call::Select { set, lane, app } => select(desc, bank, set, lane, app),
         Call::Write {
             set,
             entry,
             part,
             lane,
             value,
-        } => write(count, rw, ro, bank, set, entry, part, lane, value),
+        } => write(desc, bank, set, Field { entry, part, lane }, value),
         Call::Read {
             set,
             entry,
             part,
             lane,
-        } => read(count, rw, ro, bank, set, entry, part, lane),
-        Call::ByteWrite { set, offset, byte } => byte_write(count, rw, ro, bank, set, offset, byte),
-        Call::ByteRead { set, offset } => byte_read(count, rw, ro, bank, set, offset),
+        } => read(desc, bank, set, Field { entry, part, lane }),
+        Call::ByteWrite { set, offset, byte } => byte_write(desc, bank, set, offset, byte),
+        Call::ByteRead { set, offset } => byte_read(desc, bank, set, offset),
         Call::Publish {
             entry,
             part,
             lane,
             value,
-        } => publish(count, rw, ro, bank, entry, part, lane, value),
-        Call::Apply { set, lanes } => apply(count, rw, ro, bank, set, lanes),
+        } => publish(desc, bank, Field { entry, part, lane }, value),
+        Call::Apply { set, lanes } => apply(desc, bank, set, lanes),
     }
 }
 
 // weight: the active number of a lane of a 12h entry, in thousandths.
-pub fn weight(
-    count: usize,
-    rw: &[u8],
-    ro: &[u8],
-    bank: &[u8],
-    entry: usize,
-    lane: usize,
-) -> Result<Answer, Refusal>
-    ensures { result ≡ weight_call count rw.now ro.now bank.now entry lane }
+pub fn weight(desc: Descriptors, bank: &[u8], entry: usize, lane: usize) -> Result<Answer, Refusal>
+    ensures { result ≡ over weight_call desc.entry bank.now entry lane }
 {
-    let f = admit_field(count, rw, ro, bank.len(), entry, 0, lane)?;
-    if !(f.id == 0x12) {
+    let f = admit_field(
+        desc,
+        bank.len(),
+        Field {
+            entry,
+            part: 0,
+            lane,
+        },
+    )?;
+    // 12h alone has a step.
+    let Some(step) = f.step else {
         return Err(Refusal::Plain(10));
-    }
+    };
     let bits = read_field(bank, 2, f.offset, 0, 8, lane);
-    Ok(Answer::Number(weight_of(f.step, number_of(true, bits))))
+    Ok(Answer::Number(weight_of(step, number_of(true, bits))))
 }

@@ -4,22 +4,14 @@ ghost use Rattle.rules.specs.Accept.{to_bits, thousandths, weight_of};
 ghost use Rattle.control_set.specs.Field.{InBits};
 ghost use Rattle.control_set.specs.Values.{number_by};
 
-// A byte as an unsigned number.
-pub fn wide(x: u8) -> i64
-    ensures { result ≡ pos x }
-{
-    x as i64
-}
-
 // The number that a field's bits stand for. Only fields of 8 bits hold signed numbers.
 pub fn number_of(signed: bool, bits: u8) -> i64
     ensures { result ≡ number_by signed bits }
 {
-    let number = wide(bits);
-    if signed & (128 <= bits) {
-        return number - 256;
+    if signed {
+        return i64::from(bits.cast_signed());
     }
-    number
+    i64::from(bits)
 }
 
 // The bits that stand for a number. A negative one has those of a byte: only fields of 8 bits hold it.
@@ -27,11 +19,7 @@ pub fn bits_of(value: i64) -> u8
     requires { InBits 8 value }
     ensures { result ≡ to_bits 8 value }
 {
-    if value < 0 {
-        (value + 256) as u8
-    } else {
-        value as u8
-    }
+    value.rem_euclid(256) as u8
 }
 
 // What a step is worth, in thousandths.

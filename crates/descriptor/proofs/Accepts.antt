@@ -3,12 +3,12 @@
 use mathlib.Core.Path.{◌≡◌, refl, sym, ◌∙◌}
 use mathlib.Core.Bool.{Bool, true, false, ◌&&◌, ◌||◌, beq}
 use mathlib.Core.List.{List, [], ◌∷◌}
-use Prim.Native.Nat.{ℕ, ◌≤◌, ◌<◌}
+use Prim.Native.Nat.{ℕ, ◌/◌, ◌^◌, ◌≤◌, ◌<◌}
 use native.Mathlib.Omega.{arith}
 use native.Mathlib.Decide.{dec_lt}
-use lib.IntN.{ℤ, pos, negsuc}
+use lib.IntN.{ℤ, pos, negsuc, nat_abs}
 use lib.Signed.{le_z}
-use lib.Bits.{bit_and}
+use lib.Bits.{bit_and, and_mask}
 use lib.Dec.{T, eqb, eqb→eq, ltb, lt→ltb, leb, leb→le}
 use borrow.Author.Tests.{le-leb, lt-leb, eq-eqb}
 use lib.ListN.{get_or-eq_default}
@@ -16,10 +16,10 @@ use Rattle.rules.specs.declared.Entry.{Entry}
 use Rattle.rules.specs.Numbers.{bit_of, sum}
 use Rattle.rules.specs.Parameter.{Range, Values, numbers, if_in_mask, min_to_max, rows as table_rows, space, both, row_of}
 use Rattle.rules.specs.Place.{parts_of}
-use Rattle.rules.specs.Accept.{within, in_mask, signed_byte, takes, accepts}
-use Rattle.rules.proofs.Basics.Tests.{and₂, and₃, from-true, and-no}
+use Rattle.rules.specs.Accept.{within, in_mask, takes, accepts}
+use Rattle.rules.proofs.Basics.Tests.{and₂, from-true, and-no}
 use Rattle.rules.proofs.Basics.Ids.{below, below-at, every-id}
-use Rattle.descriptor.specs.Find.{lowest, highest, code_bits, low_of, high_of, is_coded, listed_in, named_of, accepted_in, accepted_by}
+use Rattle.descriptor.specs.Find.{lowest, highest, code_bits, low_of, high_of, accepted_of, named_of, range_of, accepted_in, accepted_by}
 use Rattle.descriptor.proofs.TableRows.{same-test, only, only-then, eq_z, eq_z→eq}
 use Rattle.descriptor.proofs.Bits.{and-bit}
 
@@ -83,7 +83,13 @@ unfolding in_mask
 and-codes x y (pos n) = and-bit x y n
 and-codes x y (negsuc n) = refl
 
--- the test: a signed number has 8 bits, a code 4; accepted values are codes where there is a code mask, else one range or the entry's own
+-- a code is the number of a bit
+pub code-bit : (mask : ℕ) (v : ℤ) → (le_z (pos 0) v && le_z v (pos 15)) ≡ true → eqb (bit_and (mask / 2 ^ nat_abs v) 1) 1 ≡ in_mask mask v
+unfolding in_mask
+code-bit mask (pos n) h = rw (and_mask (mask / 2 ^ n) 1)
+code-bit mask (negsuc n) h = let o : ◌≡◌ {A = ℕ} 0 1 = cc in absurd (omega arith)
+
+-- the test: a signed number has 8 bits; accepted values are codes where there is a code mask, else one range or the entry's own
 abbrev coded : List Range → Bool
 coded l = (eq_z (lowest l) (pos 0) && eq_z (highest l) (pos 15)) && (low l && bits l)
 
@@ -93,10 +99,7 @@ values_test parts (if_in_mask l) = coded l
 values_test parts min_to_max = true
 
 abbrev test : ℕ → Bool
-test id =
-    only (row_of id).signed (eqb (row_of id).width 8)
-    && (only (is_coded (row_of id).values) (eqb (row_of id).width 4)
-    && values_test (row_of id).parts (row_of id).values)
+test id = only (row_of id).signed (eqb (row_of id).width 8) && values_test (row_of id).parts (row_of id).values
 
 tested : (id : ℕ) → T (test id)
 unfolding row_of code_bits within sum
@@ -104,11 +107,10 @@ tested = every-id test tt (λ id l. rw (get_or-eq_default table_rows (space both
 
 record Tested (id : ℕ) : Type 0 where
   signed : T (only (row_of id).signed (eqb (row_of id).width 8))
-  codes : T (only (is_coded (row_of id).values) (eqb (row_of id).width 4))
   values : T (values_test (row_of id).parts (row_of id).values)
 
 tests : (id : ℕ) → Tested id
-tests id = let (a, b, c) = and₃ (only (row_of id).signed (eqb (row_of id).width 8)) (only (is_coded (row_of id).values) (eqb (row_of id).width 4)) (values_test (row_of id).parts (row_of id).values) (tested id) in record { signed = a; codes = b; values = c }
+tests id = let (a, b) = and₂ (only (row_of id).signed (eqb (row_of id).width 8)) (values_test (row_of id).parts (row_of id).values) (tested id) in record { signed = a; values = b }
 
 pub signed-byte : (id : ℕ) → (row_of id).signed ≡ true → (row_of id).width ≡ 8
 signed-byte id h = eqb→eq _ _ (only-then (row_of id).signed _ (tests id).signed (from-true h))
@@ -129,38 +131,28 @@ coded-says l h =
     let (e, f) = and₂ (low l) (bits l) b in
     record { low-is = eq_z→eq _ _ c; high-is = eq_z→eq _ _ d; all-low = e; all-bits = f }
 
--- codes are 0 to 15
-pub coded-ends : (e : Entry) → is_coded (row_of e.id).values ≡ true → (low_of (row_of e.id).values e ≡ pos 0) × (high_of (row_of e.id).values e ≡ pos 15)
-coded-ends e h = go (row_of e.id).values (values-tested e.id) h
+-- the range of what an entry accepts: codes are 0 to 15
+pub range-is : (e : Entry) → range_of (accepted_of (row_of e.id).values e) ≡ record { low = low_of (row_of e.id).values e; high = high_of (row_of e.id).values e }
+range-is e = go (row_of e.id).values (values-tested e.id)
   where
-    go : (x : Values) → T (values_test (row_of e.id).parts x) → is_coded x ≡ true → (low_of x e ≡ pos 0) × (high_of x e ≡ pos 15)
-    go (numbers l) t q = let o : ◌≡◌ {A = ℕ} 0 1 = cc in absurd (omega arith)
-    go (if_in_mask l) t q = let c = coded-says l t in (c.low-is, c.high-is)
-    go min_to_max t q = let o : ◌≡◌ {A = ℕ} 0 1 = cc in absurd (omega arith)
+    go : (x : Values) → T (values_test (row_of e.id).parts x) → range_of (accepted_of x e) ≡ record { low = low_of x e; high = high_of x e }
+    go (numbers l) t = refl
+    go (if_in_mask l) t = let c = coded-says l t in rw (c.low-is, c.high-is) refl
+    go min_to_max t = refl
 
-and-yes : (t : Bool) → (t && true) ≡ t
-and-yes true = refl
-and-yes false = refl
-
--- a column's values, as a range and codes
-values-are :
-    (x : Values) (parts : ℕ)
-    → T (values_test parts x)
-    → 0 < parts
-    → (e : Entry) (v : ℤ)
-    → accepted_in (low_of x e) (high_of x e) (is_coded x) (bit_and (listed_in x) e.codes) v ≡ takes x e v
+-- a column's values, as a range or codes
+values-are : (x : Values) (parts : ℕ) → T (values_test parts x) → 0 < parts → (e : Entry) (v : ℤ) → accepted_in (accepted_of x e) v ≡ takes x e v
 unfolding accepted_in takes
-values-are (numbers l) parts t some e v =
-    and-yes (le_z (lowest l) v && le_z v (highest l)) ∙ sym (single-within l v (only-then (ltb 0 parts) (single l) t (lt→ltb 0 parts some)))
+values-are (numbers l) parts t some e v = sym (single-within l v (only-then (ltb 0 parts) (single l) t (lt→ltb 0 parts some)))
 values-are (if_in_mask l) parts t some e v =
     let c = coded-says l t in
-    rw (c.low-is, c.high-is, and-codes (code_bits l) e.codes v, codes-within l v c.all-low c.all-bits)
+    rw (and-codes (code_bits l) e.codes v, codes-within l v c.all-low c.all-bits)
     (group (le_z (pos 0) v && le_z v (pos 15)) (in_mask (code_bits l) v) (in_mask e.codes v))
   where
     group : (a b c : Bool) → (a && (b && c)) ≡ ((a && b) && c)
     group true b c = refl
     group false b c = refl
-values-are min_to_max parts t some e v = and-yes (le_z (signed_byte e.min) v && le_z v (signed_byte e.max))
+values-are min_to_max parts t some e v = refl
 
 -- what a call needs of an entry with fields says what it accepts
 pub named-accepts : (in_ro : Bool) (e : Entry) (v : ℤ) → 0 < parts_of e → accepted_by (named_of in_ro e) v ≡ accepts e v

@@ -23,7 +23,7 @@ use Rattle.rules.proofs.Load.Walks.{map-good, length-most}
 use Rattle.rules.proofs.Load.EntryHeads.{Head, strings-short, few-entries}
 use Rattle.rules.proofs.Refusals.Orders.{order-refused, order-accepted}
 use Rattle.descriptor.specs.declared.Covered.{Covered}
-use Rattle.descriptor.specs.Cover.{none_covers, by, cover_in, cover_of, Reachable, Hits}
+use Rattle.descriptor.specs.Cover.{none_covers, by, cover_in, cover_of, Reachable, Hits, Misses}
 use Rattle.descriptor.specs.declared.search.Hit.{Hit}
 use Rattle.descriptor.proofs.Marks.{mark_of, accepts, rw-count, all-count, active-is, passable, entry-stands, entry-heads, string-ends}
 
@@ -171,25 +171,24 @@ module _ (count : ℕ) (first last : List ℕ) (k n c d t : ℕ) (h : load_of co
           rw (lt-ltb i p.rw_count (omega (arith, rw-count count first last n c d t h))) refl,
         )
 
-    module _ {x : Hit} (f : Hits (mask_bytes count) (cond in_ro last first) (cond in_ro d 0) (cond in_ro c n) k (cond in_ro n 0) x) where
+    module _ {looked : ℕ} {x : Hit} (f : Hits (mask_bytes count) (cond in_ro last first) (cond in_ro d 0) (cond in_ro c n) k (cond in_ro n 0) looked x) where
       pub covers-found :
-          x.number < cond in_ro c n
-          → (x.at ≤ 120)
-          × (by (cond in_ro (n + x.number) x.number) x.sum (parts_of (entry_at (mask_bytes count) (cond in_ro last first) x.at x.sum)) (width_of (entry_at (mask_bytes count) (cond in_ro last first) x.at x.sum)) x.looked in_ro ≡ cover_of count first last k)
+          (x.mark.at ≤ 120)
+          × (by (cond in_ro (n + x.number) x.number) x.mark.sum (parts_of (entry_at (mask_bytes count) (cond in_ro last first) x.mark.at x.mark.sum)) (width_of (entry_at (mask_bytes count) (cond in_ro last first) x.mark.at x.mark.sum)) looked in_ro ≡ cover_of count first last k)
           × (cond in_ro (n + x.number) x.number ≤ 2 * entry_limit)
-      covers-found l =
-          let (u, v) = in-string x.number l in
+      covers-found =
+          let (u, v) = in-string x.number f.inside in
           let e = cond in_ro (n + x.number) x.number in
-          let q = sym (entry-stands count first last n c d t h in_ro x.number l) ∙ f.is in
-          let (y, w) = covers-at e u (entry-heads count first last n c d t h in_ro x.number l) q f.low (f.top l) in
-          (omega (arith, short in_ro), rw (f.to-one l, counted in_ro x.number) (rw v at w), omega (arith, few-entries count first last ok))
+          let q = sym (entry-stands count first last n c d t h in_ro x.number f.inside) ∙ f.is in
+          let (y, w) = covers-at e u (entry-heads count first last n c d t h in_ro x.number f.inside) q f.low f.top in
+          (omega (arith, short in_ro), rw (f.counted, counted in_ro x.number) (rw v at w), omega (arith, few-entries count first last ok))
 
-      -- none: the byte lies past the spaces of the string
-      pub covers-past : cond in_ro c n ≤ x.number → cond in_ro t d ≤ k
-      covers-past l =
-          let y : x.number ≡ cond in_ro c n = omega (arith, f.few) in
-          let v : x.sum ≡ cond in_ro t d = sym (ap (λ i. i.sum) f.is) ∙ rw y (string-ends count first last n c d t h in_ro) in
-          omega (arith, f.low)
+    -- none: the byte lies past the spaces of the string
+    pub covers-past :
+        {looked : ℕ}
+        → Misses (mask_bytes count) (cond in_ro last first) (cond in_ro d 0) (cond in_ro c n) k (cond in_ro n 0) looked
+        → cond in_ro t d ≤ k
+    covers-past f = rw (string-ends count first last n c d t h in_ro) at f.low
 
   -- none in either string
   pub covers-none : t ≤ k → none_covers ≡ cover_of count first last k

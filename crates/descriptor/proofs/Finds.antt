@@ -6,8 +6,9 @@ use mathlib.Core.List.{List, [], ◌∷◌}
 use Prim.Native.Nat.{ℕ, ◌+◌, ◌≤◌, ◌<◌}
 use native.Mathlib.Omega.{arith}
 use lib.ListN.{length}
-use lib.Dec.{ltb, ltb→lt}
-use borrow.Author.Tests.{eq-eqb, not-false}
+use lib.Dec.{eqb, eqb→eq, ltb, ltb→lt}
+use Rattle.std.specs.Prelude.{Some, None}
+use borrow.Author.Tests.{not-false}
 use Rattle.rules.specs.declared.Refusal.{Refusal}
 use Rattle.rules.specs.declared.Refusal.TheVariants.{Plain as plain}
 use Rattle.rules.specs.Descriptor.{mask_bytes, entry_at}
@@ -51,9 +52,26 @@ module _ (count : ℕ) (first last : List ℕ) {e p i : ℕ} {f : Named} (z : In
   unfolding named_of
   signed-is = ap (λ (x : Named). x.signed) (sym z.is)
 
-  pub step-is : (entry (map_of count first last) e).id ≡ 0x12 → f.step ≡ (entry (map_of count first last) e).step
+  step-is : f.step ≡ cond (eqb (entry (map_of count first last) e).id 0x12) (Some (entry (map_of count first last) e).step) None
   unfolding named_of
-  step-is q = ap (λ (x : Named). x.step) (sym z.is) ∙ rw (eq-eqb (entry (map_of count first last) e).id 0x12 q) refl
+  step-is = ap (λ (x : Named). x.step) (sym z.is)
+
+  -- 12h alone has a step
+  pub step-some : (k : ℕ) → Some k ≡ f.step → ((entry (map_of count first last) e).id ≡ 0x12) × (k ≡ (entry (map_of count first last) e).step)
+  step-some k h = go (eqb (entry (map_of count first last) e).id 0x12) refl (h ∙ step-is)
+    where
+      go : (b : Bool) → eqb (entry (map_of count first last) e).id 0x12 ≡ b
+          → Some k ≡ cond b (Some (entry (map_of count first last) e).step) None
+          → ((entry (map_of count first last) e).id ≡ 0x12) × (k ≡ (entry (map_of count first last) e).step)
+      go true x q = (eqb→eq _ _ (from-true x), cc)
+      go false x q = let o : ◌≡◌ {A = ℕ} 0 1 = cc in absurd (omega arith)
+
+  pub step-none : None ≡ f.step → eqb (entry (map_of count first last) e).id 0x12 ≡ false
+  step-none h = go (eqb (entry (map_of count first last) e).id 0x12) refl (h ∙ step-is)
+    where
+      go : (b : Bool) → eqb (entry (map_of count first last) e).id 0x12 ≡ b → None ≡ cond b (Some (entry (map_of count first last) e).step) None → b ≡ false
+      go true x q = let o : ◌≡◌ {A = ℕ} 0 1 = cc in absurd (omega arith)
+      go false x q = refl
 
 -- a call whose bank is not too short is refused as one that takes none
 pub no-check8 : (count : ℕ) (first last : List ℕ) (rest : List Verdict) → told_order count first last false rest ≡ order_of (read_of count first last) rest

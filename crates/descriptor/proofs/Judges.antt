@@ -2,7 +2,7 @@
 -- names and for the others, and what follows from it.
 use mathlib.Core.Path.{◌≡◌, refl, sym, ap, ◌∙◌}
 use mathlib.Core.Logic.{◌≢◌}
-use mathlib.Core.Bool.{Bool, true, false, ◌&&◌, not, cond}
+use mathlib.Core.Bool.{Bool, true, false, ◌&&◌, not, cond, beq}
 use mathlib.Core.List.{List}
 use Prim.Native.Nat.{ℕ, suc, ◌-◌, ◌^◌, ◌≤◌, ◌<◌}
 use native.Mathlib.Omega.{arith}
@@ -20,10 +20,12 @@ use Rattle.rules.specs.Place.{parts_of, width_of, signed_of}
 use Rattle.rules.specs.Accept.{within, in_mask, from_bits, signed_byte, takes, accepts}
 use Rattle.rules.proofs.Basics.Tests.{and₂, and₃, is-true, is-false, by-test, and-no}
 use Rattle.rules.proofs.Basics.Ids.{every-id}
+use Rattle.descriptor.specs.declared.Accepted.{Accepted}
+use Rattle.descriptor.specs.declared.Accepted.TheVariants.{Within as within_range, Codes as in_codes}
 use Rattle.descriptor.specs.Rows.{is_limited}
-use Rattle.descriptor.specs.Find.{lowest, highest, code_bits, low_of, high_of}
+use Rattle.descriptor.specs.Find.{lowest, highest, code_bits, low_of, high_of, accepted_of}
 use Rattle.descriptor.specs.Reading.{has_patterns, patterns_in, patterns_of}
-use Rattle.descriptor.proofs.TableRows.{only, only-then}
+use Rattle.descriptor.proofs.TableRows.{same-test, only, only-then}
 use Rattle.descriptor.proofs.Bits.{and-bit}
 use Rattle.descriptor.proofs.Accepts.{single, single-within, bits, bit-within}
 
@@ -192,3 +194,29 @@ module _ (a : ℕ) (s : List ℕ) (start offset offset' : ℕ) where
       (low_of (row_of (entry_at a s start offset).id).values (entry_at a s start offset) ≡ low_of (row_of (entry_at a s start offset').id).values (entry_at a s start offset'))
       × (high_of (row_of (entry_at a s start offset).id).values (entry_at a s start offset) ≡ high_of (row_of (entry_at a s start offset').id).values (entry_at a s start offset'))
   range-any = (same-low (row_of here.id).values, same-high (row_of here.id).values)
+
+-- 03h has patterns, and each ID with codes; no other
+abbrev patterns_test : Bool → ℕ → Values → Bool
+patterns_test t w (numbers l) = beq t (has_patterns w)
+patterns_test t w (if_in_mask l) = not t && has_patterns w
+patterns_test t w min_to_max = not t && not (has_patterns w)
+
+patterns-tested : (id : ℕ) → T (patterns_test (eqb id 3) (row_of id).width (row_of id).values)
+unfolding row_of
+patterns-tested =
+    every-id (λ id. patterns_test (eqb id 3) (row_of id).width (row_of id).values) tt
+    λ id l. rw (ne_eqb id 3 (omega arith), get_or-eq_default table_rows (space both) {n = id} l) tt
+
+-- the codes of what is accepted
+abbrev pub codes_in : Accepted → ℕ
+codes_in (in_codes codes) = codes
+codes_in (within_range r) = 0
+
+pub patterns-are : (e : Entry) → eqb e.id 3 ≡ false → codes_in (accepted_of (row_of e.id).values e) ≡ patterns_of e
+unfolding patterns_of width_of
+patterns-are e h = go (row_of e.id).values (rw h at (patterns-tested e.id))
+  where
+    go : (x : Values) → T (patterns_test false (row_of e.id).width x) → codes_in (accepted_of x e) ≡ cond (has_patterns (row_of e.id).width) (patterns_in x e) 0
+    go (numbers l) t = rw (← same-test false _ t) refl
+    go (if_in_mask l) t = rw (is-true (has_patterns (row_of e.id).width) t) refl
+    go min_to_max t = rw (is-false (has_patterns (row_of e.id).width) t) refl

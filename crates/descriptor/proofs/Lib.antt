@@ -13,6 +13,6 @@ pub mod Finds
 pub mod Judges
 pub mod EntryReads
 pub mod Covers
-pub mod Puts
+pub mod Adds
 pub mod Lines
 pub mod Maps

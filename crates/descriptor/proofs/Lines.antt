@@ -16,8 +16,9 @@ use Rattle.rules.proofs.Load.Checks.{Passed, decode-passed}
 use Rattle.rules.proofs.Load.Folds.{Folded, begin, turn, done, out, more, done-by, turn-by}
 use Rattle.descriptor.specs.declared.state.Count.{Count}
 use Rattle.descriptor.specs.Counts.{with_count}
-use Rattle.descriptor.specs.Text.{Put, entry_line, Listing}
-use Rattle.descriptor.proofs.Puts.{put-then, put-most}
+use Rattle.descriptor.specs.declared.text.Text.{Text}
+use Rattle.descriptor.specs.Text.{Adds, entry_line, Listing}
+use Rattle.descriptor.proofs.Adds.{adds-then, adds-most, adds-none}
 use Rattle.descriptor.proofs.Scan.{Went}
 
 abbrev rest : ℕ → ℕ → List ℕ → ℕ → State → List Entry
@@ -67,46 +68,45 @@ module _ {a : ℕ} {s : List ℕ} {st₀ : State} {at : ℕ} {st : State} {text 
           same = r.same ∙ ap (λ l. text ++ entry_lines (entry_number st) l) (left m.0 (Ok e) m.1 d) ∙ rw q (one-more (entry_number st) text e (rest a m.0 s (at + e.length) (next st e)));
         }
 
--- the buffer holds the text so far: at most 16 bytes for each entry, which takes at least 4 of its string; the walk stands at a place of it
-pub record Writing (a : ℕ) (s : List ℕ) (st₀ : State) (at : ℕ) (before : List ℕ) (from : ℕ) (st : State) (place : ℕ) (after : List ℕ) : Type 0 where
+-- what is added so far: at most 16 bytes for each entry, which takes at least 4 of its string; the walk stands at a place of it
+pub record Writing (a : ℕ) (s : List ℕ) (st₀ : State) (before : Text) (from : ℕ) (st : State) (after : Text) : Type 0 where
   text : List ℕ
   lined : Lined a s st₀ from st text
   pub folded : Folded onward Ok a s 0 st₀ from st
-  pub put : Put (4 * from) at text before place after
+  pub adds : Adds (4 * from) text before after
   pub inside : from ≤ length s
   pub few : st.before ≤ entry_limit
   pub sum : st.sum ≤ 256
 
-pub writing-begin : (a : ℕ) (s : List ℕ) (st : State) (at : ℕ) (b : List ℕ) → st.before ≤ entry_limit → st.sum ≤ 256 → Writing a s st at b 0 st at b
-writing-begin a s st at b n h =
+pub writing-begin : (a : ℕ) (s : List ℕ) (st : State) (x : Text) → st.before ≤ entry_limit → st.sum ≤ 256 → Writing a s st x 0 st x
+writing-begin a s st x n h =
     record {
       text = [];
       lined = lined-begin a s st;
       folded = begin onward Ok a s 0 st;
-      put = record { next = omega arith; room = omega arith; bytes = refl };
+      adds = adds-none x;
       inside = omega arith;
       few = n;
       sum = h;
     }
 
-module _ {a : ℕ} {s : List ℕ} {st₀ : State} {at : ℕ} {before : List ℕ} {from : ℕ} {st : State} {place : ℕ} {after : List ℕ}
-    (w : Writing a s st₀ at before from st place after) where
+module _ {a : ℕ} {s : List ℕ} {st₀ : State} {before : Text} {from : ℕ} {st : State} {after : Text} (w : Writing a s st₀ before from st after) where
   -- no byte is left
-  pub writing-end : length s ≤ from → Listing a s st₀ at before place st after
+  pub writing-end : length s ≤ from → Listing a s st₀ before after st
   unfolding walk_within
   writing-end h =
       record {
-        put = rw (lined-end w.lined h) (put-most (4 * length s) (omega (arith, w.inside)) w.put);
+        adds = rw (lined-end w.lined h) (adds-most (4 * length s) (omega (arith, w.inside)) w.adds);
         ends = λ e q. let o : Ok st ≡ Ok e = done w.folded h ∙ q in cc;
       }
 
   module _ (h : from < length s) where
     -- an entry that fails a check
-    pub writing-stop : (n : ℕ) → decode_at a s from st ≡ Err n → Listing a s st₀ at before place st after
+    pub writing-stop : (n : ℕ) → decode_at a s from st ≡ Err n → Listing a s st₀ before after st
     unfolding walk_within
     writing-stop n d =
         record {
-          put = rw (lined-stop w.lined h n d) (put-most (4 * length s) (omega (arith, w.inside)) w.put);
+          adds = rw (lined-stop w.lined h n d) (adds-most (4 * length s) (omega (arith, w.inside)) w.adds);
           ends = λ e q.
               let o = out w.folded h (Err (at_entry n (entry_number st))) (λ k. rw d refl) ∙ q in
               let z : ◌≡◌ {A = ℕ} 0 1 = cc in
@@ -118,9 +118,9 @@ module _ {a : ℕ} {s : List ℕ} {st₀ : State} {at : ℕ} {before : List ℕ}
         1 ≤ a
         → {to : ℕ} {kept : Count}
         → Went from st (decode_at a s from st) to kept
-        → {place' : ℕ} {after' : List ℕ}
-        → Put 16 place (entry_line (entry_number st) (entry_at a s from st.sum)) after place' after'
-        → Writing a s st₀ at before to (with_count st kept) place' after'
+        → {next : Text}
+        → Adds 16 (entry_line (entry_number st) (entry_at a s from st.sum)) after next
+        → Writing a s st₀ before to (with_count st kept) next
     writing-next low g p =
         let e = g.e in
         let d = g.decodes in
@@ -130,7 +130,7 @@ module _ {a : ℕ} {s : List ℕ} {st₀ : State} {at : ℕ} {before : List ℕ}
           text = w.text ++ entry_line (entry_number st) e;
           lined = lined-next w.lined h e d;
           folded = turn w.folded h e d (λ _. refl);
-          put = rw k.entry (put-most (4 * (from + (entry_at a s from st.sum).length)) (omega (arith, rw k.entry at k.long)) (put-then w.put p));
+          adds = rw k.entry (adds-most (4 * (from + (entry_at a s from st.sum).length)) (omega (arith, rw k.entry at k.long)) (adds-then w.adds p));
           inside = omega (arith, k.within);
           few = w.few;
           sum = k.sum;

@@ -18,9 +18,10 @@ use Rattle.rules.proofs.Basics.Tests.{and₄, is-true}
 use Rattle.rules.proofs.Load.Walks.{Map-accepted, load-accepted, walk-listed, walk-counts}
 use Rattle.rules.proofs.Program.Lines.{lines-both}
 use Rattle.rules.proofs.Program.MapInput.{map-short, map-whole}
-use Rattle.descriptor.specs.Text.{Put, Printed, Listing}
+use Rattle.descriptor.specs.declared.text.Text.{Text}
+use Rattle.descriptor.specs.Text.{Adds, Printed, Listing}
 use Rattle.descriptor.proofs.Both.{both-load}
-use Rattle.descriptor.proofs.Puts.{put-then, printed}
+use Rattle.descriptor.proofs.Adds.{adds-then, printed}
 
 pub record Sizes (first last : List ℕ) : Type 0 where
   pub rw : length first ≤ 120
@@ -40,7 +41,7 @@ module _ (count : ℕ) (first last : List ℕ) (ok : Accepted count first last) 
       let (x, y, z, w) = and₄ (leb 1 count) (leb count 15) (leb (length first) 120) (leb (length last) 120) loaded.sized in
       record { rw = leb→le (length first) 120 z; ro = leb→le (length last) 120 w }
 
-  module _ {at₁ r₁ : ℕ} {b₁ b₂ : List ℕ} {m : State} (one : Listing (mask_bytes count) first start at₁ b₁ r₁ m b₂) where
+  module _ {x y : Text} {m : State} (one : Listing (mask_bytes count) first start x y m) where
     to-middle : walk_of (mask_bytes count) first 0 start ≡ Ok m
     to-middle = loaded.rw-ends ∙ ap Ok (sym (one.ends loaded.middle loaded.rw-ends))
 
@@ -49,7 +50,7 @@ module _ (count : ℕ) (first last : List ℕ) (ok : Accepted count first last) 
         let (x, y) = walk-counts (mask_bytes count) first 0 start m (omega arith) (omega arith) to-middle in
         record { few = x; sum = y }
 
-    module _ {r₂ : ℕ} {b₃ : List ℕ} {e : State} (two : Listing (mask_bytes count) last (into_ro m) r₁ b₂ r₂ e b₃) where
+    module _ {z : Text} {e : State} (two : Listing (mask_bytes count) last (into_ro m) y z e) where
       to-end : walk_of (mask_bytes count) last 0 (into_ro m) ≡ Ok e
       to-end =
           let q : loaded.middle ≡ m = sym (one.ends loaded.middle loaded.rw-ends) in
@@ -64,15 +65,17 @@ module _ (count : ℕ) (first last : List ℕ) (ok : Accepted count first last) 
 
       -- heading, both strings' lines and end, one after the other
       pub map-printed :
-          {b₀ b₄ : List ℕ} {r : ℕ}
-          → length b₀ ≡ 1024
-          → Put 23 0 heading b₀ at₁ b₁
-          → Put 12 r₂ (end_line m.sum e.sum) b₃ r b₄
-          → Printed (map_text (load_of count first last) (entries_of count first last)) b₀ r b₄
-      map-printed size head end =
+          {v w : Text} {b : List ℕ}
+          → Adds 23 heading v x
+          → Adds 12 (end_line m.sum e.sum) z w
+          → length v.out.now ≡ 1024
+          → v.length ≡ 0
+          → b ≡ w.out.now
+          → Printed (map_text (load_of count first last) (entries_of count first last)) v.out.now w.length b
+      map-printed head end size none back =
           rw
           (both-load count first last (is-true (sized count first last) loaded.sized) m e to-middle to-end, lines-both count first last m to-middle, staged-is)
-          (printed (omega (arith, sizes.rw, sizes.ro)) size (put-then head (put-then (put-then one.put two.put) end)))
+          (printed (adds-then head (adds-then (adds-then one.adds two.adds) end)) (omega (arith, sizes.rw, sizes.ro)) size none back)
 
 -- what is printed for an input: n is its RW size and k its RO size
 module _ (input : List ℕ) (n k : ℕ) (p : n ≡ byte_at input 1) (q : k ≡ byte_at input (2 + n)) where

@@ -1,24 +1,23 @@
 -- The rows of the code are those of the table, at every ID: one test, computed for each ID that the table names and for the others.
 -- And the bounds of what the table says.
 use mathlib.Core.Path.{◌≡◌, refl}
-use mathlib.Core.Bool.{Bool, true, false, ◌&&◌, ◌||◌, not, beq}
+use mathlib.Core.Bool.{Bool, true, false, ◌&&◌, ◌||◌, not, cond, beq}
 use mathlib.Core.List.{List}
 use Prim.Native.Nat.{ℕ, ◌+◌, ◌<◌}
 use lib.IntN.{ℤ, pos, negsuc}
-use lib.Signed.{le_z}
+use native.Mathlib.Omega.{arith}
+use borrow.Author.Tests.{ne_eqb}
 use lib.Dec.{T, eqb, eqb→eq, ltb, ltb→lt}
 use lib.ListN.{get_or, get_or-eq_default}
 use Rattle.rules.specs.declared.Entry.{Entry}
-use Rattle.rules.specs.Numbers.{sum}
 use Rattle.rules.specs.Parameter.{Row as TableRow, row_of, rows as table_rows, space, Side, RW, RO, both, Extra, code_mask, min, max, step, Values as Column, numbers, if_in_mask, min_to_max}
 use Rattle.rules.specs.Descriptor.{Position, absent, after, position_of}
-use Rattle.rules.specs.Accept.{within}
 use Rattle.rules.specs.Place.{parts_of, width_of}
-use Rattle.rules.proofs.Basics.Tests.{and₂, and₄, and₅}
+use Rattle.rules.proofs.Basics.Tests.{and₂, and₅}
 use Rattle.rules.proofs.Table.Rows.{looked-up}
 use Rattle.rules.proofs.Basics.Ids.{every-id}
-use Rattle.descriptor.specs.Rows.{classes, class_of, row_at, shape_at, low_in, high_in, more_in}
-use Rattle.descriptor.specs.Find.{code_bits, is_coded, listed_in}
+use Rattle.descriptor.specs.Rows.{classes, class_of, row_at, shape_at}
+use Rattle.descriptor.specs.Find.{lowest, highest}
 
 -- what the column of sides says, in terms of the table
 abbrev pub side_number : Side → ℕ
@@ -108,56 +107,41 @@ eq_z→eq (pos a) (negsuc b) h = absurd h
 eq_z→eq (negsuc a) (pos b) h = absurd h
 eq_z→eq (negsuc a) (negsuc b) h = rw (eqb→eq a b h)
 
--- from −128 to 255
-abbrev pub inside : ℤ → Bool
-inside z = le_z (negsuc 127) z && le_z z (pos 255)
-
--- Min and Max are next to each other
-abbrev pub adjacent : Position → Position → Bool
-adjacent absent q = false
-adjacent (after n) absent = false
-adjacent (after n) (after k) = eqb k (n + 1) || eqb n (k + 1)
-
 abbrev pub present : Position → Bool
 present absent = false
 present (after n) = true
 
--- an ID with codes has a code mask, one with limits has Min and Max
-abbrev pub more_test : Column → List Extra → Bool
-more_test (numbers l) x = true
-more_test (if_in_mask l) x = present (position_of code_mask x)
-more_test min_to_max x = adjacent (position_of min x) (position_of max x)
+-- what the fields of an ID hold: unsigned numbers begin at 0, signed ones are a byte's; a code mask, or Min and Max, stand where they are read;
+-- a step is read of 12h alone
+abbrev pub held_test : Bool → Bool → Column → List Extra → Bool
+held_test t s (numbers l) x =
+    beq t (s && present (position_of step x))
+    && (eq_z (lowest l) (cond s (negsuc 127) (pos 0)) && only s (eq_z (highest l) (pos 127)))
+held_test t s (if_in_mask l) x = beq t false && (beq s false && present (position_of code_mask x))
+held_test t s min_to_max x = beq t false && (beq s true && (present (position_of min x) && present (position_of max x)))
+
+pub held-tested : (id : ℕ) → T (held_test (eqb id 0x12) (row_of id).signed (row_of id).values (row_of id).extras)
+unfolding row_of
+held-tested =
+    every-id (λ id. held_test (eqb id 0x12) (row_of id).signed (row_of id).values (row_of id).extras) tt
+    λ id l. rw (ne_eqb id 0x12 (omega arith), get_or-eq_default table_rows (space both) {n = id} l) tt
 
 -- the numbers of an ID's fields are small
 pub record Small (id : ℕ) : Type 0 where
   pub few : (row_of id).parts < 16
   pub narrow : (row_of id).width < 16
-  pub low : T (inside (low_in (row_of id).values))
-  pub high : T (inside (high_in (row_of id).values))
-  pub place : more_in (row_of id).values (row_of id).extras < 256
-  pub more : T (more_test (row_of id).values (row_of id).extras)
-  pub coded : ltb 0 (listed_in (row_of id).values) ≡ is_coded (row_of id).values
 
 abbrev small_test : TableRow → Bool
-small_test r =
-    ltb r.parts 16
-    && (ltb r.width 16
-    && (inside (low_in r.values)
-    && (inside (high_in r.values)
-    && (ltb (more_in r.values r.extras) 256
-    && (more_test r.values r.extras
-    && beq (ltb 0 (listed_in r.values)) (is_coded r.values))))))
+small_test r = ltb r.parts 16 && ltb r.width 16
 
 small-tested : (id : ℕ) → T (small_test (row_of id))
-unfolding row_of code_bits within sum
+unfolding row_of
 small-tested = looked-up small_test table_rows (space both) tt tt
 
 pub small : (id : ℕ) → Small id
 small id =
-    let r : TableRow = row_of id in
-    let (t₁, t₂, t₃, rest) = and₄ (ltb r.parts 16) (ltb r.width 16) (inside (low_in r.values)) _ (small-tested id) in
-    let (t₄, t₅, t₆, t₇) = and₄ (inside (high_in r.values)) (ltb (more_in r.values r.extras) 256) (more_test r.values r.extras) _ rest in
-    record { few = ltb→lt _ _ t₁; narrow = ltb→lt _ _ t₂; low = t₃; high = t₄; place = ltb→lt _ _ t₅; more = t₆; coded = same-test _ _ t₇ }
+    let (t₁, t₂) = and₂ (ltb (row_of id).parts 16) (ltb (row_of id).width 16) (small-tested id) in
+    record { few = ltb→lt _ _ t₁; narrow = ltb→lt _ _ t₂ }
 
 -- for callers
 pub parts-few : (e : Entry) → parts_of e < 16

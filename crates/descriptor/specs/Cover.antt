@@ -36,12 +36,16 @@ cover_of count rw ro k = covered (order_of (read_of count rw ro) []) (cover_in (
 abbrev pub Reachable : ℕ → List ℕ → ℕ → ℕ → ℕ → Type 0
 Reachable a s sum n k = (i : ℕ) → i < n → (mark_after a s sum i).sum ≤ k → OnEntry a s (mark_after a s sum i)
 
--- past entries whose spaces end at byte k or before it: all n of a string, or up to one whose space ends past it, which is looked at too.
--- `before`: entries looked at already
-pub record Hits (a : ℕ) (s : List ℕ) (sum n k before : ℕ) (h : Hit) : Type 0 where
-  pub few : h.number ≤ n
-  pub is : mark_after a s sum h.number ≡ record { at = h.at; sum = h.sum }
-  pub low : h.sum ≤ k
-  pub top : h.number < n → k < h.sum + byte_at s (h.at + 2 + a)
-  pub to-one : h.number < n → h.looked ≡ before + suc h.number
-  pub to-end : n ≤ h.number → h.looked ≡ before + n
+-- the first entry of a string whose space ends past byte k, none of which begins past it; `looked` entries are looked at with it, `before` of
+-- them before the string
+pub record Hits (a : ℕ) (s : List ℕ) (sum n k before looked : ℕ) (h : Hit) : Type 0 where
+  pub inside : h.number < n
+  pub is : mark_after a s sum h.number ≡ h.mark
+  pub low : h.mark.sum ≤ k
+  pub top : k < h.mark.sum + byte_at s (h.mark.at + 2 + a)
+  pub counted : looked ≡ before + suc h.number
+
+-- the spaces of all n entries end at byte k or before it, and all are looked at
+pub record Misses (a : ℕ) (s : List ℕ) (sum n k before looked : ℕ) : Type 0 where
+  pub low : (mark_after a s sum n).sum ≤ k
+  pub counted : looked ≡ before + n

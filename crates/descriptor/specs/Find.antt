@@ -1,25 +1,28 @@
 -- What a call needs of the field that it names, refused as a call that is told of its bank is.
-use Rattle.std.specs.Prelude.{◌≡◌, Bool, true, false, ◌&&◌, ◌||◌, not, cond, List, [], ◌∷◌, ℕ, ◌^◌, ℤ, pos, ltb, eqb, Result, Ok, Err}
+use Rattle.std.specs.Prelude.{◌≡◌, Some, None, Result, Ok, Err, Bool, true, ◌&&◌, not, cond, List, [], ◌∷◌, ℕ, ◌^◌, ℤ, pos, ltb, eqb}
 use Rattle.std.specs.Int.Bits.{bit_and}
 use Rattle.std.specs.Int.Signed.{le_z}
 use Rattle.rules.specs.declared.Refusal.{Refusal}
 use Rattle.rules.specs.declared.Entry.{Entry}
 use Rattle.rules.specs.declared.Refusal.TheVariants.{Plain as plain}
 use Rattle.rules.specs.Numbers.{sum}
-use Rattle.rules.specs.Parameter.{Range, Values, numbers, if_in_mask, min_to_max, row_of}
+use Rattle.rules.specs.Parameter.{Range as TableRange, Values, numbers, if_in_mask, min_to_max, row_of}
 use Rattle.rules.specs.Load.{map_of, read_of}
 use Rattle.rules.specs.Place.{entry, is_rw, is_lane, has_field, parts_of, width_of, signed_of}
 use Rattle.rules.specs.Accept.{within, in_mask, signed_byte}
 use Rattle.rules.specs.Refuse.{Verdict, passes, refuses, refuse_if, first_of, check9, check_entries}
-use Rattle.rules.specs.Demands.{Accepted}
+use Rattle.rules.specs.Demands.{Accepted as AcceptedMap}
+use Rattle.descriptor.specs.declared.Range.{Range}
+use Rattle.descriptor.specs.declared.Accepted.{Accepted}
+use Rattle.descriptor.specs.declared.Accepted.TheVariants.{Within as within_range, Codes as in_codes}
 use Rattle.descriptor.specs.declared.Named.{Named}
 
 -- the accepted numbers lie from the first range's beginning to the last one's end
-abbrev pub lowest : List Range → ℤ
+abbrev pub lowest : List TableRange → ℤ
 lowest [] = pos 0
 lowest (r ∷ l) = r.low
 
-abbrev pub highest : List Range → ℤ
+abbrev pub highest : List TableRange → ℤ
 highest [] = pos 0
 highest (r ∷ []) = r.high
 highest (r ∷ q ∷ l) = highest (q ∷ l)
@@ -36,19 +39,14 @@ high_of (if_in_mask l) e = highest l
 high_of min_to_max e = signed_byte e.max
 
 -- those of 0 to 15, a bit for each
-unfoldable pub code_bits : List Range → ℕ
+unfoldable pub code_bits : List TableRange → ℕ
 code_bits l = sum 16 λ n. cond (within l (pos n)) (2 ^ n) 0
 
--- the codes that a code mask may allow
-abbrev pub is_coded : Values → Bool
-is_coded (numbers l) = false
-is_coded (if_in_mask l) = true
-is_coded min_to_max = false
-
-abbrev pub listed_in : Values → ℕ
-listed_in (numbers l) = 0
-listed_in (if_in_mask l) = code_bits l
-listed_in min_to_max = 0
+-- what the fields of an entry accept: from one number to another, or codes, those that a code mask allows of the table's
+abbrev pub accepted_of : Values → Entry → Accepted
+accepted_of (numbers l) e = within_range (record { low = lowest l; high = highest l })
+accepted_of (if_in_mask l) e = in_codes (bit_and (code_bits l) e.codes)
+accepted_of min_to_max e = within_range (record { low = signed_byte e.min; high = signed_byte e.max })
 
 -- what a call needs of an entry; the step of 12h alone
 unfoldable pub named_of : Bool → Entry → Named
@@ -60,25 +58,31 @@ named_of in_ro e =
       parts = parts_of e;
       width = width_of e;
       signed = signed_of e;
-      low = low_of (row_of e.id).values e;
-      high = high_of (row_of e.id).values e;
-      coded = is_coded (row_of e.id).values;
-      codes = bit_and (listed_in (row_of e.id).values) e.codes;
-      step = cond (eqb e.id 0x12) e.step 0;
+      accepted = accepted_of (row_of e.id).values e;
+      step = cond (eqb e.id 0x12) (Some e.step) None;
     }
 
 -- a field of the map of strings that load, and what a call needs of its entry
 pub record InMap (count : ℕ) (rw ro : List ℕ) (e p i : ℕ) (f : Named) : Type 0 where
-  pub ok : Accepted count rw ro
+  pub ok : AcceptedMap count rw ro
   pub has : has_field (map_of count rw ro) e p i ≡ true
   pub is : named_of (not (is_rw (map_of count rw ro) e)) (entry (map_of count rw ro) e) ≡ f
 
--- the values that its fields accept: from low to high and, where there is a code mask, those with a bit in the codes
-unfoldable pub accepted_in : ℤ → ℤ → Bool → ℕ → ℤ → Bool
-accepted_in low high coded codes v = (le_z low v && le_z v high) && (not coded || in_mask codes v)
+-- the values that fields accept: from low to high; or those of 0 to 15 with a bit in the codes
+abbrev pub in_range : Range → ℤ → Bool
+in_range r v = le_z r.low v && le_z v r.high
+
+unfoldable pub accepted_in : Accepted → ℤ → Bool
+accepted_in (within_range r) v = in_range r v
+accepted_in (in_codes codes) v = (le_z (pos 0) v && le_z v (pos 15)) && in_mask codes v
+
+-- the range of all of them
+abbrev pub range_of : Accepted → Range
+range_of (within_range r) = r
+range_of (in_codes codes) = record { low = pos 0; high = pos 15 }
 
 abbrev pub accepted_by : Named → ℤ → Bool
-accepted_by f v = accepted_in f.low f.high f.coded f.codes v
+accepted_by f v = accepted_in f.accepted v
 
 abbrev pub found : Verdict → Result Named Refusal → Result Named Refusal
 found passes x = x

@@ -10,3 +10,4 @@ pub mod Find
 pub mod Reading
 pub mod Cover
 pub mod Text
+pub mod Lent

@@ -8,7 +8,7 @@ use Rattle.rules.specs.Parameter.{Values, numbers, if_in_mask, min_to_max, row_o
 use Rattle.descriptor.specs.declared.Named.{Named}
 use Rattle.descriptor.specs.declared.Read.{Read}
 use Rattle.descriptor.specs.declared.Range.{Range}
-use Rattle.descriptor.specs.Find.{named_of, code_bits}
+use Rattle.descriptor.specs.Find.{named_of, code_bits, low_of, high_of}
 
 -- the class of an ID, and the row of its class: parts, bits a lane. An ID behind the classes has class 0, a class behind the rows no parts
 unfoldable pub class_by : List ℕ → ℕ → ℕ
@@ -27,10 +27,7 @@ shaped l f =
       parts = get_or l 0 0;
       width = get_or l 1 0;
       signed = f.signed;
-      low = f.low;
-      high = f.high;
-      coded = f.coded;
-      codes = f.codes;
+      accepted = f.accepted;
       step = f.step;
     }
 
@@ -77,5 +74,7 @@ patterns_by count s start = cond (leb start 120) (patterns_of (entry_at (mask_by
 -- Min and Max of the entry at a place; of an entry without, the lowest and the highest number of the table
 unfoldable pub range_by : ℕ → List ℕ → ℕ → Range
 range_by count s start =
-    let f : Named = named_of false (entry_at (mask_bytes count) s start 0) in
-    cond (leb start 120) (record { low = f.low; high = f.high }) (record { low = pos 0; high = pos 0 })
+    let e : Entry = entry_at (mask_bytes count) s start 0 in
+    cond (leb start 120)
+    (record { low = low_of (row_of e.id).values e; high = high_of (row_of e.id).values e })
+    (record { low = pos 0; high = pos 0 })

@@ -1,9 +1,10 @@
 -- The constant rows as lists, and what the fields of an ID hold by the table.
-use Rattle.std.specs.Prelude.{◌≡◌, Bool, true, false, cond, List, [], ◌∷◌, ℕ, ◌+◌, ltb, ℤ, pos, negsuc, get_or}
+use Rattle.std.specs.Prelude.{◌≡◌, Bool, true, false, cond, List, [], ◌∷◌, ℕ, ◌+◌, get_or}
 use Rattle.rules.specs.Parameter.{Extra, code_mask, min, max, step, Values as Column, numbers, if_in_mask, min_to_max, row_of}
 use Rattle.rules.specs.Descriptor.{Position, absent, after, position_of}
 use Rattle.descriptor.specs.declared.table.Values.{Values}
-use Rattle.descriptor.specs.Find.{lowest, highest, listed_in}
+use Rattle.descriptor.specs.declared.table.Values.TheVariants.{UpTo as up_to, SignedByte as every_byte, Codes as codes_in, MinToMax as between, Stepped as with_step}
+use Rattle.descriptor.specs.Find.{highest, code_bits}
 
 abbrev pub classes : List ℕ
 classes = 0 ∷ 1 ∷ 2 ∷ 3 ∷ 4 ∷ 2 ∷ 2 ∷ 5 ∷ 4 ∷ 6 ∷ 6 ∷ 2 ∷ 2 ∷ 7 ∷ 4 ∷ 8 ∷ 8 ∷ 9 ∷ 10 ∷ []
@@ -64,61 +65,31 @@ place_number (after n) = 4 + n
 abbrev pub place_in : Extra → List Extra → ℕ
 place_in x l = place_number (position_of x l)
 
--- the first of two places, and where the byte at one of them begins in the number that both are
-abbrev pub first : ℕ → ℕ → ℕ
-first a b = cond (ltb a b) a b
+-- every number of a signed byte, with the place of a step where there is one
+abbrev pub byte_by : Position → Values
+byte_by absent = every_byte
+byte_by (after n) = with_step (place_number (after n))
 
-abbrev pub bit_by : ℕ → ℕ → ℕ
-bit_by a b = cond (ltb a b) 8 0
+-- by the column of accepted values; no signed number has another range than a byte's (`Wides`)
+abbrev pub values_in : Bool → Column → List Extra → Values
+values_in s (numbers l) x = cond s (byte_by (position_of step x)) (up_to (highest l))
+values_in s (if_in_mask l) x = codes_in (place_in code_mask x) (code_bits l)
+values_in s min_to_max x = between (place_in min x) (place_in max x)
 
--- every number of a range; codes that are in a mask; from Min to Max; every number of a signed byte, with a step
-abbrev pub number_values : Bool → ℤ → ℤ → Values
-number_values s low high =
-    record { signed = s; low = low; high = high; place = 0; listed = 0; limited = false; min_bit = 0; max_bit = 0 }
+-- what the fields of an ID hold, by the table
+unfoldable pub values_of : ℕ → Values
+values_of id = values_in (row_of id).signed (row_of id).values (row_of id).extras
 
-abbrev pub code_values : ℕ → ℕ → Values
-code_values at all =
-    record { signed = false; low = pos 0; high = pos 15; place = at; listed = all; limited = false; min_bit = 0; max_bit = 0 }
+-- whether they are numbers in two's complement
+abbrev pub are_signed : Values → Bool
+are_signed (up_to n) = false
+are_signed every_byte = true
+are_signed (codes_in p l) = false
+are_signed (between p q) = true
+are_signed (with_step p) = true
 
-abbrev pub limit_values : ℕ → ℕ → ℕ → Values
-limit_values at a b =
-    record { signed = true; low = pos 0; high = pos 0; place = at; listed = 0; limited = true; min_bit = a; max_bit = b }
-
-abbrev pub step_values : ℕ → Values
-step_values at =
-    record { signed = true; low = negsuc 127; high = pos 127; place = at; listed = 0; limited = false; min_bit = 0; max_bit = 0 }
-
--- by the column of accepted values: the numbers that the table gives, and the place of the two bytes that say more
-abbrev pub low_in : Column → ℤ
-low_in (numbers l) = lowest l
-low_in (if_in_mask l) = lowest l
-low_in min_to_max = pos 0
-
-abbrev pub high_in : Column → ℤ
-high_in (numbers l) = highest l
-high_in (if_in_mask l) = highest l
-high_in min_to_max = pos 0
-
+-- whether an entry's Min and Max say what its fields accept
 abbrev pub is_limited : Column → Bool
 is_limited (numbers l) = false
 is_limited (if_in_mask l) = false
 is_limited min_to_max = true
-
-abbrev pub more_in : Column → List Extra → ℕ
-more_in (numbers l) x = place_in step x
-more_in (if_in_mask l) x = place_in code_mask x
-more_in min_to_max x = first (place_in min x) (place_in max x)
-
--- what the fields of an ID hold, by the table
-unfoldable pub values_of : ℕ → Values
-values_of id =
-    record {
-      signed = (row_of id).signed;
-      low = low_in (row_of id).values;
-      high = high_in (row_of id).values;
-      place = more_in (row_of id).values (row_of id).extras;
-      listed = listed_in (row_of id).values;
-      limited = is_limited (row_of id).values;
-      min_bit = bit_by (place_in min (row_of id).extras) (place_in max (row_of id).extras);
-      max_bit = bit_by (place_in max (row_of id).extras) (place_in min (row_of id).extras);
-    }

@@ -1,4 +1,4 @@
--- The map program's text as it is written: what a writer leaves in the buffer, and what it needs of an entry that it prints.
+-- The map program's text as it is written: what a writer adds to it, and what it needs of an entry that it prints.
 use Rattle.std.specs.Prelude.{◌≡◌, List, [], ◌∷◌, ◌++◌, ℕ, ◌+◌, ◌*◌, ◌≤◌, ◌<◌, length, drop, Ok}
 use Rattle.std.proofs.lemmas.List.Edits.{sets}
 use Rattle.rules.specs.Descriptor.{entry_limit}
@@ -6,12 +6,14 @@ use Rattle.rules.specs.declared.Entry.{Entry}
 use Rattle.rules.specs.declared.State.{State}
 use Rattle.rules.specs.Load.{entry_number, walk_of, entries_from}
 use Rattle.rules.specs.MapProgram.{decimal, line, entry_lines}
+use Rattle.descriptor.specs.declared.text.Text.{Text}
 
--- a text of at most so many bytes is stored from a place on, and the place after it is answered
-pub record Put (most at : ℕ) (text before : List ℕ) (r : ℕ) (after : List ℕ) : Type 0 where
-  pub next : r ≡ at + length text
-  pub room : length text ≤ most
-  pub bytes : after ≡ sets before at text
+-- bytes are added to a text, at most so many: they are stored behind it in the same buffer
+pub record Adds (most : ℕ) (bytes : List ℕ) (before after : Text) : Type 0 where
+  pub same : after.out.ghost_name ≡ before.out.ghost_name
+  pub size : after.length ≡ before.length + length bytes
+  pub room : length bytes ≤ most
+  pub stored : after.out.now ≡ sets before.out.now before.length bytes
 
 -- a text is the beginning of the buffer, the rest is as it was
 pub record Printed (text before : List ℕ) (r : ℕ) (after : List ℕ) : Type 0 where
@@ -30,7 +32,7 @@ pub record Printable (a : ℕ) (s : List ℕ) (at : ℕ) (st : State) : Type 0 w
   pub number : entry_number st < 2 * entry_limit
   pub sum : st.sum < 1000
 
--- the lines of a string are written, each of at most 16 bytes for an entry of at least 4; the state is that of the string's end
-pub record Listing (a : ℕ) (s : List ℕ) (begin : State) (at : ℕ) (before : List ℕ) (r : ℕ) (end : State) (after : List ℕ) : Type 0 where
-  pub put : Put (4 * length s) at (entry_lines (entry_number begin) (entries_from a s 0 begin)) before r after
+-- the lines of a string are added, each of at most 16 bytes for an entry of at least 4; the state is that of the string's end
+pub record Listing (a : ℕ) (s : List ℕ) (begin : State) (before after : Text) (end : State) : Type 0 where
+  pub adds : Adds (4 * length s) (entry_lines (entry_number begin) (entries_from a s 0 begin)) before after
   pub ends : (e : State) → walk_of a s 0 begin ≡ Ok e → end ≡ e

@@ -8,10 +8,11 @@ ghost use Rattle.rules.specs.Load.{sized, load_of, resume_of, pass_of};
 ghost use Rattle.rules.specs.MapProgram.{map_output};
 ghost use Rattle.rules.specs.Beside.{entry_answer, entry_bytes};
 ghost use Rattle.descriptor.specs.Locate.{located_of};
-ghost use Rattle.descriptor.specs.Find.{held_in, found_of};
+ghost use Rattle.descriptor.specs.Find.{in_range, range_of, accepted_in, held_in, found_of};
 ghost use Rattle.descriptor.specs.Rows.{is_limited};
 ghost use Rattle.descriptor.specs.Reading.{read_by, patterns_by, range_by};
 ghost use Rattle.descriptor.specs.Cover.{cover_of};
+ghost use Rattle.descriptor.specs.Lent.{over};
 
 mod table; // the table of IDs
 mod rows; // the class of an ID
@@ -23,14 +24,14 @@ mod search; // an entry by its number, and by a byte of its space
 mod text; // the map program's text
 
 use crate::decode::byte_at;
-use crate::reading::{named_at, named_by, patterns_at, read_at};
+use crate::reading::{accepted_at, named_at, patterns_at, read_at};
 use crate::rows::class_of;
 use crate::search::{Mark, look, seek};
 use crate::state::{into_ro, start};
-use crate::table::{LEAST, ROWS};
+use crate::table::{LEAST, ROWS, values_of};
 use crate::text::{put_refused, put_strings};
 use crate::walk::{in_limits, pass_in, scan, to_ro};
-use rules::{Answer, Loaded, Passed, Refusal, State};
+use rules::{Answer, Field, Loaded, Passed, Refusal, State};
 
 // The rows of the table that `entry_read` is lent: a call names them once. By these it says of an entry what the table says (`read-entry`
 // of proofs/EntryReads).
@@ -45,113 +46,257 @@ pub struct Located {
     pub offset: usize,
 }
 
-// 9: the count is 1 to 15 and no string is over 120.
-pub fn limits(count: usize, rw: &[u8], ro: &[u8]) -> bool
-    ensures { result ≡ sized count rw.now ro.now }
-{
-    in_limits(count, rw, ro)
+// What a call is lent of a module: the count of its applications, and both descriptor strings.
+#[derive(Clone, Copy)]
+pub struct Descriptors<'a> {
+    pub count: usize,
+    pub rw: &'a [u8],
+    pub ro: &'a [u8],
 }
 
-// The load: the check of both strings, their entry counts and lengths.
-pub fn load(count: usize, rw: &[u8], ro: &[u8]) -> Result<Loaded, Refusal>
-    ensures { result ≡ load_of count rw.now ro.now }
-{
-    resume(count, rw, ro, start())
+impl<'a> Descriptors<'a> {
+    // 9: the count is 1 to 15 and no string is over 120.
+    pub fn limits(self) -> bool
+        ensures { result ≡ over sized self.entry }
+    {
+        in_limits(self.count, self.rw, self.ro)
+    }
+
+    // The load: the check of both strings, their entry counts and lengths.
+    pub fn load(self) -> Result<Loaded, Refusal>
+        ensures { result ≡ over load_of self.entry }
+    {
+        self.resume(start())
+    }
+
+    // The load taken up again: given what it kept after an entry, and the bytes not yet read, it answers what the load answers. In the RW string
+    // these are its rest and the RO string; in the RO string, whose rest they are, `rw` isn't read.
+    pub fn resume(self, st: State) -> Result<Loaded, Refusal>
+        ensures { result ≡ resume_of self.entry.count st self.entry.rw.now self.entry.ro.now }
+    {
+        if !in_limits(self.count, self.rw, self.ro) {
+            return Err(Refusal::Plain(9));
+        }
+        let a = mask_bytes(self.count);
+        let classes = CLASSES;
+        let rows = ROWS;
+        let last = to_ro(&classes, &rows, a, self.rw, st)?;
+        match scan(&classes, &rows, true, a, self.ro, false, last.counts) {
+            Err(stop) => Err(stop.after(last.before)),
+            Ok(end) => Ok(Loaded {
+                rw_count: last.before,
+                ro_count: end.entries,
+                staged_length: last.staged,
+                active_length: end.sum,
+            }),
+        }
+    }
+
+    // One entry of a load that is made entry by entry, so that it can be broken off after it; none at the end.
+    pub fn pass(self, st: State) -> Result<Option<Passed>, Refusal>
+        ensures { result ≡ pass_of self.entry.count st self.entry.rw.now self.entry.ro.now }
+    {
+        if !in_limits(self.count, self.rw, self.ro) {
+            return Err(Refusal::Plain(9));
+        }
+        let a = mask_bytes(self.count);
+        if st.ro {
+            return pass_in(a, self.ro, st);
+        }
+        if 0 < self.rw.len() {
+            return pass_in(a, self.rw, st);
+        }
+        pass_in(a, self.ro, into_ro(st))
+    }
+
+    // Where the entry of a number stands, or the refusal of the entry call.
+    pub fn locate(self, entry: usize) -> Result<Located, Refusal>
+        ensures { result ≡ over located_of self.entry entry }
+    {
+        let loaded = self.load()?;
+        let a = mask_bytes(self.count);
+        if entry < loaded.rw_count {
+            let mark = seek(a, self.rw, 0, entry);
+            return Ok(Located {
+                ro: false,
+                start: mark.at,
+                length: self.rw[mark.at + 1] as usize,
+                offset: mark.sum,
+            });
+        }
+        let n = entry - loaded.rw_count;
+        if n < loaded.ro_count {
+            let mark = seek(a, self.ro, loaded.staged_length, n);
+            return Ok(Located {
+                ro: true,
+                start: mark.at,
+                length: self.ro[mark.at + 1] as usize,
+                offset: mark.sum,
+            });
+        }
+        Err(Refusal::Plain(10))
+    }
+
+    // The call beside the entry call: yes, or the refusal.
+    pub fn entry_check(self, entry: usize) -> Result<Answer, Refusal>
+        ensures { result ≡ over entry_answer self.entry entry }
+    {
+        self.locate(entry)?;
+        Ok(Answer::Yes)
+    }
+
+    // The entry call: the entry's own bytes, a part of the string that it stands in; refused, an empty part.
+    pub fn entry_bytes(self, entry: usize) -> &'a [u8]
+        ensures { result.now ≡ over entry_bytes self.entry entry }
+    {
+        let Ok(found) = self.locate(entry) else {
+            return &self.rw[..0];
+        };
+        let end = found.start + found.length;
+        if found.ro {
+            return &self.ro[found.start..end];
+        }
+        &self.rw[found.start..end]
+    }
+
+    // The field of an entry, part and lane, for a call that is told whether its bank is too short: 9, 8, then 16 and 1 to 7, and 10 for an
+    // entry, part or lane that doesn't exist.
+    pub fn find(self, short: bool, field: Field) -> Result<Named, Refusal>
+        ensures { result ≡ over found_of self.entry short field.entry field.part field.lane }
+    {
+        if short {
+            if !self.limits() {
+                return Err(Refusal::Plain(9));
+            }
+            return Err(Refusal::Plain(8));
+        }
+        let place = self.locate(field.entry)?;
+        let a = mask_bytes(self.count);
+        let classes = CLASSES;
+        let shapes = SHAPES;
+        if place.ro {
+            let f = named_at(
+                &classes,
+                &shapes,
+                true,
+                a,
+                self.ro,
+                place.start,
+                place.offset,
+            );
+            return held(f, field);
+        }
+        let f = named_at(
+            &classes,
+            &shapes,
+            false,
+            a,
+            self.rw,
+            place.start,
+            place.offset,
+        );
+        held(f, field)
+    }
+
+    // The first entry whose space covers a byte, if there is one, once the load has accepted the strings: those of the RW string are looked at,
+    // then those of the RO string, and none past it.
+    pub fn cover(self, offset: usize) -> Result<Option<Covered>, Refusal>
+        ensures { result ≡ over cover_of self.entry offset }
+    {
+        if !self.limits() {
+            return Err(Refusal::Plain(9));
+        }
+        self.cover_within(offset)
+    }
+
+    // The same without that look at the lengths. With it the strings are handed on from registers, not by a wide copy of what was
+    // just stored, which the processor waits for.
+    fn cover_within(self, offset: usize) -> Result<Option<Covered>, Refusal>
+        ensures { result ≡ over cover_of self.entry offset }
+    {
+        let loaded = self.load()?;
+        let a = mask_bytes(self.count);
+        let classes = CLASSES;
+        let shapes = SHAPES;
+        let mut looked = 0;
+        if let Some(first) = look(a, self.rw, 0, loaded.rw_count, offset, &mut looked) {
+            let mark = first.mark;
+            let f = named_at(&classes, &shapes, false, a, self.rw, mark.at, mark.sum);
+            return Ok(Some(Covered {
+                number: first.number,
+                offset: f.offset,
+                parts: f.parts,
+                width: f.width,
+                looked,
+                ro: false,
+            }));
+        }
+        let before = loaded.staged_length;
+        if let Some(last) = look(a, self.ro, before, loaded.ro_count, offset, &mut looked) {
+            let mark = last.mark;
+            let f = named_at(&classes, &shapes, true, a, self.ro, mark.at, mark.sum);
+            return Ok(Some(Covered {
+                number: loaded.rw_count + last.number,
+                offset: f.offset,
+                parts: f.parts,
+                width: f.width,
+                looked,
+                ro: true,
+            }));
+        }
+        Ok(None)
+    }
 }
 
-// The load taken up again: given what it kept after an entry, and the bytes not yet read, it answers what the load answers. In the RW string
-// these are its rest and the RO string; in the RO string, whose rest they are, `rw` isn't read.
-pub fn resume(count: usize, rw: &[u8], ro: &[u8], st: State) -> Result<Loaded, Refusal>
-    ensures { result ≡ resume_of count st rw.now ro.now }
-{
-    if !in_limits(count, rw, ro) {
-        return Err(Refusal::Plain(9));
-    }
-    let a = mask_bytes(count);
-    let classes = CLASSES;
-    let rows = ROWS;
-    let last = to_ro(&classes, &rows, a, rw, st)?;
-    match scan(&classes, &rows, true, a, ro, false, last.counts) {
-        Err(stop) => Err(stop.after(last.before)),
-        Ok(end) => Ok(Loaded {
-            rw_count: last.before,
-            ro_count: end.entries,
-            staged_length: last.staged,
-            active_length: end.sum,
-        }),
+// From one number to another, both included.
+#[derive(Clone, Copy)]
+pub struct Range {
+    pub low: i64,
+    pub high: i64,
+}
+
+impl Range {
+    pub fn has(self, value: i64) -> bool
+        ensures { result ≡ in_range self value }
+    {
+        (self.low..=self.high).contains(&value)
     }
 }
 
-// One entry of a load that is made entry by entry, so that it can be broken off after it; none at the end.
-pub fn pass(count: usize, rw: &[u8], ro: &[u8], st: State) -> Result<Option<Passed>, Refusal>
-    ensures { result ≡ pass_of count st rw.now ro.now }
-{
-    if !in_limits(count, rw, ro) {
-        return Err(Refusal::Plain(9));
-    }
-    let a = mask_bytes(count);
-    if st.ro {
-        return pass_in(a, ro, st);
-    }
-    if 0 < rw.len() {
-        return pass_in(a, rw, st);
-    }
-    pass_in(a, ro, into_ro(st))
+// The numbers of 4 bits, which codes are.
+const FOUR_BITS: Range = Range { low: 0, high: 15 };
+
+// The values that the fields of an entry accept: every number within a range, or the codes of 0 to 15 that have a bit.
+#[derive(Clone, Copy)]
+pub enum Accepted {
+    Within(Range),
+    Codes(usize),
 }
 
-// Where the entry of a number stands, or the refusal of the entry call.
-pub fn locate(count: usize, rw: &[u8], ro: &[u8], entry: usize) -> Result<Located, Refusal>
-    ensures { result ≡ located_of count rw.now ro.now entry }
-{
-    let loaded = load(count, rw, ro)?;
-    let a = mask_bytes(count);
-    if entry < loaded.rw_count {
-        let mark = seek(a, rw, 0, entry);
-        return Ok(Located {
-            ro: false,
-            start: mark.at,
-            length: rw[mark.at + 1] as usize,
-            offset: mark.sum,
-        });
+impl Accepted {
+    #[tactic(auto, unfolding(crate::specs::Find::accepted_in))]
+    pub fn has(self, value: i64) -> bool
+        ensures { result ≡ accepted_in self value }
+    {
+        match self {
+            Accepted::Within(range) => range.has(value),
+            Accepted::Codes(codes) => FOUR_BITS.has(value) && (codes >> value) & 1 == 1,
+        }
     }
-    let n = entry - loaded.rw_count;
-    if n < loaded.ro_count {
-        let mark = seek(a, ro, loaded.staged_length, n);
-        return Ok(Located {
-            ro: true,
-            start: mark.at,
-            length: ro[mark.at + 1] as usize,
-            offset: mark.sum,
-        });
-    }
-    Err(Refusal::Plain(10))
-}
 
-// The call beside the entry call: yes, or the refusal.
-pub fn entry_check(count: usize, rw: &[u8], ro: &[u8], entry: usize) -> Result<Answer, Refusal>
-    ensures { result ≡ entry_answer count rw.now ro.now entry }
-{
-    locate(count, rw, ro, entry)?;
-    Ok(Answer::Yes)
-}
-
-// The entry call: the entry's own bytes, a part of the string that it stands in; refused, an empty part.
-pub fn entry_bytes<'a>(count: usize, rw: &'a [u8], ro: &'a [u8], entry: usize) -> &'a [u8]
-    ensures { result.now ≡ entry_bytes count rw.now ro.now entry }
-{
-    let Ok(found) = locate(count, rw, ro, entry) else {
-        return &rw[..0];
-    };
-    let end = found.start + found.length;
-    if found.ro {
-        return &ro[found.start..end];
+    // The range of all of them.
+    fn range(self) -> Range
+        ensures { result ≡ range_of self }
+    {
+        match self {
+            Accepted::Within(range) => range,
+            Accepted::Codes(_) => FOUR_BITS,
+        }
     }
-    &rw[found.start..end]
 }
 
 // What a call needs of the entry that it names: whether it stands in the RO string, its ID, where its fields lie, whether their
-// numbers are signed, the accepted numbers, from low to high and, where there is a code mask, those with a bit in `codes`, and
-// the step of a 12h entry.
+// numbers are signed, the values that they accept, and the step of a 12h entry.
 #[derive(Clone, Copy)]
 pub struct Named {
     pub ro: bool,
@@ -160,53 +305,19 @@ pub struct Named {
     pub parts: usize,
     pub width: usize,
     pub signed: bool,
-    pub low: i64,
-    pub high: i64,
-    pub coded: bool,
-    pub codes: usize,
-    pub step: usize,
+    pub accepted: Accepted,
+    pub step: Option<usize>,
 }
 
 // 10: a part that the entry doesn't have, or a lane that doesn't exist.
 #[tactic(auto, unfolding(crate::specs::Find::held_in))]
-fn held(f: Named, part: usize, lane: usize) -> Result<Named, Refusal>
-    ensures { result ≡ held_in f part lane }
+fn held(f: Named, field: Field) -> Result<Named, Refusal>
+    ensures { result ≡ held_in f field.part field.lane }
 {
-    if (part < f.parts) & ((1 <= lane) & (lane <= 8)) {
+    if (field.part < f.parts) & ((1 <= field.lane) & (field.lane <= 8)) {
         return Ok(f);
     }
     Err(Refusal::Plain(10))
-}
-
-// The field of an entry, part and lane, for a call that is told whether its bank is too short: 9, 8, then 16 and 1 to 7, and 10 for an
-// entry, part or lane that doesn't exist.
-pub fn find(
-    count: usize,
-    rw: &[u8],
-    ro: &[u8],
-    short: bool,
-    entry: usize,
-    part: usize,
-    lane: usize,
-) -> Result<Named, Refusal>
-    ensures { result ≡ found_of count rw.now ro.now short entry part lane }
-{
-    if short {
-        if !limits(count, rw, ro) {
-            return Err(Refusal::Plain(9));
-        }
-        return Err(Refusal::Plain(8));
-    }
-    let place = locate(count, rw, ro, entry)?;
-    let a = mask_bytes(count);
-    let classes = CLASSES;
-    let shapes = SHAPES;
-    if place.ro {
-        let f = named_at(&classes, &shapes, true, a, ro, place.start, place.offset);
-        return held(f, part, lane);
-    }
-    let f = named_at(&classes, &shapes, false, a, rw, place.start, place.offset);
-    held(f, part, lane)
 }
 
 // What apply needs of an RW entry: its application mask, and what a call needs of it; and where it ends, which is where the next one
@@ -254,11 +365,8 @@ pub fn entry_read(
             parts: 0,
             width: 0,
             signed: false,
-            low: 0,
-            high: 0,
-            coded: false,
-            codes: 0,
-            step: 0,
+            accepted: Accepted::Within(Range { low: 0, high: 0 }),
+            step: None,
         },
         next: start,
         end: offset,
@@ -275,38 +383,20 @@ pub fn patterns_read(count: usize, s: &[u8], start: usize) -> usize
     0
 }
 
-// Whether an entry's Min and Max say what its fields accept.
+// Whether an entry's Min and Max say what its fields accept: of these alone apply judges the range, which `range_read` answers of any.
 pub fn has_range(id: usize) -> bool
     ensures { result ≡ is_limited (row_of id).values }
 {
     (id == 0x09) | (id == 0x0A) | (id == 0x0D)
 }
 
-// An entry's Min and Max; of an entry without, the lowest and the highest number of the table.
-#[derive(Clone, Copy)]
-pub struct Range {
-    pub low: i64,
-    pub high: i64,
-}
-
-// Those of the entry at a place; 0 past byte 120.
+// Min and Max of the entry at a place; of an entry without, the lowest and the highest number of the table; 0 past byte 120.
 pub fn range_read(count: usize, s: &[u8], start: usize) -> Range
     ensures { result ≡ range_by count s.now start }
 {
     if start <= 120 {
-        let f = named_by(
-            [0, 0],
-            byte_at(s, start),
-            false,
-            mask_bytes(count),
-            s,
-            start,
-            0,
-        );
-        return Range {
-            low: f.low,
-            high: f.high,
-        };
+        let values = values_of(byte_at(s, start));
+        return accepted_at(values, s, start + mask_bytes(count)).range();
     }
     Range { low: 0, high: 0 }
 }
@@ -321,65 +411,6 @@ pub struct Covered {
     pub width: usize,
     pub looked: usize,
     pub ro: bool,
-}
-
-// The first entry whose space covers a byte, if there is one, once the load has accepted the strings: those of the RW string are looked at,
-// then those of the RO string, and none past it.
-pub fn cover(count: usize, rw: &[u8], ro: &[u8], offset: usize) -> Result<Option<Covered>, Refusal>
-    ensures { result ≡ cover_of count rw.now ro.now offset }
-{
-    if !limits(count, rw, ro) {
-        return Err(Refusal::Plain(9));
-    }
-    cover_within(count, rw, ro, offset)
-}
-
-// The same without that look at the lengths. With it the strings are handed on from registers, not by a wide copy of what was
-// just stored, which the processor waits for.
-fn cover_within(
-    count: usize,
-    rw: &[u8],
-    ro: &[u8],
-    offset: usize,
-) -> Result<Option<Covered>, Refusal>
-    ensures { result ≡ cover_of count rw.now ro.now offset }
-{
-    let loaded = load(count, rw, ro)?;
-    let a = mask_bytes(count);
-    let classes = CLASSES;
-    let shapes = SHAPES;
-    let first = look(a, rw, 0, loaded.rw_count, offset, 0);
-    if first.number < loaded.rw_count {
-        let f = named_at(&classes, &shapes, false, a, rw, first.at, first.sum);
-        return Ok(Some(Covered {
-            number: first.number,
-            offset: f.offset,
-            parts: f.parts,
-            width: f.width,
-            looked: first.looked,
-            ro: false,
-        }));
-    }
-    let last = look(
-        a,
-        ro,
-        loaded.staged_length,
-        loaded.ro_count,
-        offset,
-        first.looked,
-    );
-    if last.number < loaded.ro_count {
-        let f = named_at(&classes, &shapes, true, a, ro, last.at, last.sum);
-        return Ok(Some(Covered {
-            number: loaded.rw_count + last.number,
-            offset: f.offset,
-            parts: f.parts,
-            width: f.width,
-            looked: last.looked,
-            ro: true,
-        }));
-    }
-    Ok(None)
 }
 
 // What the map program prints for an input, written from the beginning of a buffer, with its length.

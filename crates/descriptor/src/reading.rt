@@ -1,8 +1,9 @@
 // The reading of an entry: what a call needs of the one that it names, and what apply needs of an RW entry. The walks read less.
 ghost use Rattle.std.specs.Prelude.{◌≡◌, ◌≤◌, ◌<◌};
 ghost use Rattle.rules.specs.Descriptor.{byte_at, high_first, entry_at};
+ghost use Rattle.rules.specs.Accept.{signed_byte};
 ghost use Rattle.descriptor.specs.Rows.{Shapes};
-ghost use Rattle.descriptor.specs.Wide.{Pair, PairAt, limit_by, step_by};
+ghost use Rattle.descriptor.specs.Wide.{accepted_at, step_at};
 ghost use Rattle.descriptor.specs.Find.{named_of};
 ghost use Rattle.descriptor.specs.Marks.{OnEntry};
 ghost use Rattle.descriptor.specs.Reading.{shape_by, shaped, read_of, patterns_of};
@@ -10,20 +11,25 @@ ghost use Rattle.descriptor.specs.Reading.{shape_by, shaped, read_of, patterns_o
 use crate::decode::byte_at;
 use crate::rows::{class_in, class_of};
 use crate::search::{Mark, past};
-use crate::table::{CODES, CODES_07, CODES_08, MASK_AT, MASK_AT_07, PARTS, WIDTH, values_of};
-use crate::{Named, Read};
+use crate::table::{PARTS, Values, WIDTH, values_of};
+use crate::{Accepted, Named, Range, Read};
+
+// The numbers of a signed byte.
+const SIGNED_BYTE: Range = Range {
+    low: -128,
+    high: 127,
+};
 
 // A byte of a string as a number, 0 past its end.
 fn byte_from(s: &[u8], at: usize) -> usize
     ensures { (result ≡ byte_at s.now at) × (result < 256) }
 {
-    let byte = byte_at(s, at);
-    byte as usize
+    byte_at(s, at) as usize
 }
 
 // Two bytes of a string as one number, high byte first.
 fn pair_from(s: &[u8], at: usize) -> usize
-    ensures { Pair s.now at result }
+    ensures { (result ≡ high_first s.now at 2) × (result < 0x10000) }
 {
     if at < s.len() {
         return byte_from(s, at) * 256 + byte_from(s, at + 1);
@@ -31,37 +37,41 @@ fn pair_from(s: &[u8], at: usize) -> usize
     0
 }
 
-// The two bytes at a place of an entry, 0 where there is none.
-fn pair_at(place: usize, s: &[u8], from: usize) -> usize
-    requires { (from ≤ 500) × (place ≤ 255) }
-    ensures { PairAt place s.now from result }
+// A byte of a string as a signed number.
+fn signed_from(s: &[u8], at: usize) -> i64
+    ensures { result ≡ signed_byte (byte_at s.now at) }
 {
-    if 0 < place {
-        return pair_from(s, from + place);
-    }
-    0
+    i64::from(byte_at(s, at).cast_signed())
 }
 
-// An end of the accepted numbers: the lowest of some bytes, signed, if it is the entry's own.
-fn limit(own: bool, fixed: i64, bytes: usize) -> i64
-    requires { bytes < 0x10000 }
-    ensures { result ≡ limit_by own fixed bytes }
+// What fields accept, by what they hold.
+#[tactic(auto, unfolding(crate::specs::Wide::accepted_at))]
+pub fn accepted_at(values: Values, s: &[u8], from: usize) -> Accepted
+    requires { from ≤ 500 }
+    ensures { result ≡ accepted_at values s.now from }
 {
-    if own {
-        return ((bytes + 128) % 256) as i64 - 128;
+    match values {
+        Values::UpTo(high) => Accepted::Within(Range { low: 0, high }),
+        Values::SignedByte => Accepted::Within(SIGNED_BYTE),
+        Values::Codes(mask, listed) => Accepted::Codes(listed & pair_from(s, from + mask as usize)),
+        Values::MinToMax(min, max) => Accepted::Within(Range {
+            low: signed_from(s, from + min as usize),
+            high: signed_from(s, from + max as usize),
+        }),
+        Values::Stepped(_) => Accepted::Within(SIGNED_BYTE),
     }
-    fixed
 }
 
-// The step of a 12h entry, the first of two bytes; 0 for another ID.
-#[tactic(auto, unfolding(crate::specs::Wide::step_by))]
-fn step_of(id: u8, pair: usize) -> usize
-    ensures { result ≡ step_by id pair }
+// The step beside them.
+#[tactic(auto, unfolding(crate::specs::Wide::step_at))]
+fn step_at(values: Values, s: &[u8], from: usize) -> Option<usize>
+    requires { from ≤ 500 }
+    ensures { result ≡ step_at values s.now from }
 {
-    if id == 0x12 {
-        return pair / 256;
+    if let Values::Stepped(step) = values {
+        return Some(byte_from(s, from + step as usize));
     }
-    0
+    None
 }
 
 // What a call needs of the entry at a place of a string, by its ID and the shape of its fields.
@@ -78,19 +88,16 @@ pub fn named_by(
     ensures { result ≡ shaped shape (named_of in_ro (entry_at a s.now start offset)) }
 {
     let values = values_of(id);
-    let pair = pair_at(values.place, s, start + a);
+    let from = start + a;
     Named {
         ro: in_ro,
         id: id as usize,
         offset,
         parts: shape[PARTS] as usize,
         width: shape[WIDTH] as usize,
-        signed: values.signed,
-        low: limit(values.limited, values.low, pair >> values.min_bit),
-        high: limit(values.limited, values.high, pair >> values.max_bit),
-        coded: 0 < values.listed,
-        codes: values.listed & pair,
-        step: step_of(id, pair),
+        signed: values.are_signed(),
+        accepted: accepted_at(values, s, from),
+        step: step_at(values, s, from),
     }
 }
 
@@ -162,14 +169,8 @@ pub fn patterns_at(id: u8, a: usize, s: &[u8], start: usize) -> usize
     if id == 0x03 {
         return 0x0007;
     }
-    if id == 0x07 {
-        return CODES_07 & pair_from(s, start + a + MASK_AT_07);
+    match accepted_at(values_of(id), s, start + a) {
+        Accepted::Codes(codes) => codes,
+        Accepted::Within(_) => 0,
     }
-    if id == 0x08 {
-        return CODES_08 & pair_from(s, start + a + MASK_AT);
-    }
-    if (id == 0x04) | (id == 0x0E) {
-        return CODES & pair_from(s, start + a + MASK_AT);
-    }
-    0
 }

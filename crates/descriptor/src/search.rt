@@ -1,8 +1,8 @@
 // The search for an entry by its number, and by a byte that its space covers, once the load has accepted the strings.
-ghost use Rattle.std.specs.Prelude.{◌≡◌, ◌+◌, ◌*◌, ◌≤◌};
+ghost use Rattle.std.specs.Prelude.{◌≡◌, ◌+◌, ◌*◌, ◌≤◌, IfSome, IfNone};
 ghost use Rattle.rules.specs.Descriptor.{entry_limit};
 ghost use Rattle.descriptor.specs.Marks.{past as past_of, OnEntry, mark_after, Passable};
-ghost use Rattle.descriptor.specs.Cover.{Reachable, Hits};
+ghost use Rattle.descriptor.specs.Cover.{Reachable, Hits, Misses};
 
 // Where an entry stands in a string and in a set: its start and its offset.
 #[derive(Clone, Copy)]
@@ -30,47 +30,43 @@ pub fn seek(a: usize, s: &[u8], sum: usize, n: usize) -> Mark
     ensures { result ≡ mark_after a s.now sum n }
 {
     let mut mark = Mark { at: 0, sum };
-    let mut i = 0;
-    while i < n {
+    for _i in 0..n {
         mark = past(a, s, mark);
-        i += 1;
     }
     mark
 }
 
-// Where a search for a byte ends: how many entries it looked at, how many of a string it passed, and where the next one stands.
+// An entry that a search found: its number in the string, and where it stands.
 #[derive(Clone, Copy)]
 pub struct Hit {
-    pub looked: usize,
     pub number: usize,
-    pub at: usize,
-    pub sum: usize,
+    pub mark: Mark,
 }
 
-// Past the entries of a string up to the first whose space ends past a byte, or past all n. Every entry that is looked at is counted,
-// with those looked at before. It is told of no entry behind that first one.
+// The first of n entries of a string whose space ends past a byte. Every entry that is looked at is counted, with those looked at before.
+// It is told of no entry behind that first one.
 #[tactic(auto, unfolding(crate::specs::Marks::mark_after))]
-pub fn look(a: usize, s: &[u8], sum: usize, n: usize, offset: usize, before: usize) -> Hit
-    requires { Reachable a s.now sum n offset × (sum ≤ offset) × (before + n ≤ 2 * entry_limit) }
-    ensures { Hits a s.now sum n offset before result }
+pub fn look(
+    a: usize,
+    s: &[u8],
+    sum: usize,
+    n: usize,
+    offset: usize,
+    looked: &mut usize,
+) -> Option<Hit>
+    requires { Reachable a s.now sum n offset × (sum ≤ offset) × (looked.old + n ≤ 2 * entry_limit) }
+    ensures hit { IfSome result (λ h. Hits a s.now sum n offset looked.old looked.new h) }
+    ensures none { IfNone result (Misses a s.now sum n offset looked.old looked.new) }
 {
     let mut mark = Mark { at: 0, sum };
-    let mut number = 0;
-    let mut looked = before;
-    while number < n {
+    for number in 0..n {
         let after = past(a, s, mark);
-        looked += 1;
+        *looked += 1;
         let end = after.sum; // of the entry's space
         if offset < end {
-            break;
+            return Some(Hit { number, mark });
         }
         mark = after;
-        number += 1;
     }
-    Hit {
-        looked,
-        number,
-        at: mark.at,
-        sum: mark.sum,
-    }
+    None
 }

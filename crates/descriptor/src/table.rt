@@ -1,7 +1,7 @@
 // Document 01's table with the lines that 02 adds: constant rows, indexed by ID class, their cells in named columns; accepted values
 // by ID. What they say of an ID is proved for every ID.
 ghost use Rattle.std.specs.Prelude.{◌≡◌};
-ghost use Rattle.descriptor.specs.Rows.{number_values, code_values, limit_values, step_values, values_of};
+ghost use Rattle.descriptor.specs.Rows.{are_signed, values_of};
 
 // The class of each ID below 13h; every ID from 13h on has the class of 00h.
 pub const CLASSES: [u8; 19] = [0, 1, 2, 3, 4, 2, 2, 5, 4, 6, 6, 2, 2, 7, 4, 8, 8, 9, 10];
@@ -51,92 +51,43 @@ pub const SHAPES: [[u8; 2]; 11] = [
 ];
 
 // The codes that a code mask may allow, a bit for each, and the place of the mask in an entry (+ A): of 04h and 0Eh, 07h and 08h.
-pub const CODES: usize = 0xFFFF; // 0 to 15
+const CODES: usize = 0xFFFF; // 0 to 15
 
-pub const CODES_07: usize = 0xF8FF; // 0 to 7, 11 to 15
+const CODES_07: usize = 0xF8FF; // 0 to 7, 11 to 15
 
-pub const CODES_08: usize = 0x800F; // 0 to 3, 15
+const CODES_08: usize = 0x800F; // 0 to 3, 15
 
-pub const MASK_AT: usize = 4;
+const MASK_AT: u8 = 4;
 
-pub const MASK_AT_07: usize = 5;
+const MASK_AT_07: u8 = 5;
 
-// What the fields of an ID hold: whether their numbers are signed; the accepted numbers, from low to high; the place of two bytes of an
-// entry that say more (+ A; 0: none). They are a code mask, of which `listed` has the codes that it may allow, a bit for each; or, for
-// an ID whose numbers are `limited`, Min and Max, each a byte from a bit on; or a step and what follows it.
+// What the fields of an ID hold. A place is that of a byte of an entry (+ A).
 #[derive(Clone, Copy)]
-pub struct Values {
-    pub signed: bool,
-    pub low: i64,
-    pub high: i64,
-    pub place: usize,
-    pub listed: usize,
-    pub limited: bool,
-    pub min_bit: usize,
-    pub max_bit: usize,
+pub enum Values {
+    // Every number from 0 to a highest one.
+    UpTo(i64),
+    // Every number of a signed byte.
+    SignedByte,
+    // The codes that have a bit in a mask of two bytes at a place, of some that it may allow, a bit for each.
+    Codes(u8, usize),
+    // The numbers of a signed byte from Min to Max, each a byte at its place.
+    MinToMax(u8, u8),
+    // Every number of a signed byte, beside a step at a place.
+    Stepped(u8),
 }
 
-// Every number from low to high.
-fn numbers(signed: bool, low: i64, high: i64) -> Values
-    ensures { result ≡ number_values signed low high }
-{
-    Values {
-        signed,
-        low,
-        high,
-        place: 0,
-        listed: 0,
-        limited: false,
-        min_bit: 0,
-        max_bit: 0,
-    }
-}
-
-// Codes, 0 to 15 at most, if in the mask.
-fn codes(place: usize, listed: usize) -> Values
-    ensures { result ≡ code_values place listed }
-{
-    Values {
-        signed: false,
-        low: 0,
-        high: 15,
-        place,
-        listed,
-        limited: false,
-        min_bit: 0,
-        max_bit: 0,
-    }
-}
-
-// From Min to Max.
-fn min_to_max(place: usize, min: usize, max: usize) -> Values
-    ensures { result ≡ limit_values place min max }
-{
-    Values {
-        signed: true,
-        low: 0,
-        high: 0,
-        place,
-        listed: 0,
-        limited: true,
-        min_bit: min,
-        max_bit: max,
-    }
-}
-
-// Every number of a signed byte, with the place of a step.
-fn stepped(place: usize) -> Values
-    ensures { result ≡ step_values place }
-{
-    Values {
-        signed: true,
-        low: -128,
-        high: 127,
-        place,
-        listed: 0,
-        limited: false,
-        min_bit: 0,
-        max_bit: 0,
+impl Values {
+    // Whether they are numbers in two's complement.
+    pub fn are_signed(self) -> bool
+        ensures { result ≡ are_signed self }
+    {
+        match self {
+            Values::UpTo(_) => false,
+            Values::SignedByte => true,
+            Values::Codes(_, _) => false,
+            Values::MinToMax(_, _) => true,
+            Values::Stepped(_) => true,
+        }
     }
 }
 
@@ -145,23 +96,23 @@ pub fn values_of(id: u8) -> Values
     ensures { result ≡ values_of id }
 {
     match id {
-        0x02 => numbers(false, 0, 1),
-        0x03 => numbers(false, 0, 2),
-        0x04 => codes(MASK_AT, CODES),
-        0x05 => numbers(false, 0, 1),
-        0x06 => numbers(false, 0, 1),
-        0x07 => codes(MASK_AT_07, CODES_07),
-        0x08 => codes(MASK_AT, CODES_08),
-        0x09 => min_to_max(5, 8, 0), // Min, Max
-        0x0A => min_to_max(5, 8, 0),
-        0x0B => numbers(false, 0, 1),
-        0x0C => numbers(false, 0, 1),
-        0x0D => min_to_max(5, 0, 8), // Max, Min
-        0x0E => codes(MASK_AT, CODES),
-        0x0F => numbers(false, 0, 255),
-        0x10 => numbers(false, 0, 255),
-        0x11 => numbers(true, -128, 127),
-        0x12 => stepped(5),
-        _ => numbers(false, 0, 0),
+        0x02 => Values::UpTo(1),
+        0x03 => Values::UpTo(2),
+        0x04 => Values::Codes(MASK_AT, CODES),
+        0x05 => Values::UpTo(1),
+        0x06 => Values::UpTo(1),
+        0x07 => Values::Codes(MASK_AT_07, CODES_07),
+        0x08 => Values::Codes(MASK_AT, CODES_08),
+        0x09 => Values::MinToMax(5, 6),
+        0x0A => Values::MinToMax(5, 6),
+        0x0B => Values::UpTo(1),
+        0x0C => Values::UpTo(1),
+        0x0D => Values::MinToMax(6, 5), // Max stands before Min
+        0x0E => Values::Codes(MASK_AT, CODES),
+        0x0F => Values::UpTo(255),
+        0x10 => Values::UpTo(255),
+        0x11 => Values::SignedByte,
+        0x12 => Values::Stepped(5),
+        _ => Values::UpTo(0),
     }
 }

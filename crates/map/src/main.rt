@@ -8,7 +8,8 @@ use descriptor::map_text;
 use std::io;
 use std::io::{Read, Write};
 
-// Reads until the input ends or the buffer is full, and gives how many bytes it read.
+// Reads until the input ends or the buffer is full, and gives how many bytes it read. Each turn goes on by what a read gave. No method
+// of the library does this: `read_to_end` wants a `Vec`, `read_exact` says nothing of a shorter input, `io::copy` nothing of a slice's bytes.
 fn read_full<R: Read>(reader: &mut R, input: &mut [u8]) -> io::Result<usize>
     ensures bound { IfOk result (λ n. n ≤ length input.new) }
     ensures bytes { IfOk result (λ n. Consumes (R.remaining reader.old) (R.remaining reader.new) (take n input.new)) }

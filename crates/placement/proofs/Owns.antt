@@ -29,7 +29,7 @@ use Rattle.descriptor.proofs.Covers.{Covering, cover-refused, cover-none, cover-
 use Rattle.placement.specs.Owner.{field_in, has_space, owned_from, Near}
 
 -- no entry covers the byte: no set has it
-owns-none :
+pub owns-none :
     (count : ℕ) (rw ro : List ℕ) (s k q : ℕ)
     → Accepted count rw ro
     → ((t : ℕ) → length_of (map_of count rw ro) t ≤ k)

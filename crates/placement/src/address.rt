@@ -1,17 +1,8 @@
-// Table 4-1 of OIF-CMIS-VCS-01.1, "CMIS base Control Set Memory Map": a constant row for each set, and address and offset by it.
-ghost use Rattle.std.specs.Prelude.{◌≡◌, ◌<◌};
-ghost use Rattle.placement.specs.Address.{line_is, address_is, offset_is};
+// Table 4-1 of OIF-CMIS-VCS-01.1, "CMIS base Control Set Memory Map": a line for each set, and address and offset by it.
+ghost use Rattle.std.specs.Prelude.{◌≡◌};
+ghost use Rattle.placement.specs.Address.{row_as, line_is, is_inside, address_is, offset_is};
 
-// Page, its first and last byte; overflow page, its first and last byte.
-pub const ROWS: [[u8; 6]; 3] = [
-    [0x10, 153, 175, 0x18, 144, 199], // staged set 0
-    [0x10, 188, 210, 0x18, 200, 255], // staged set 1
-    [0x11, 214, 234, 0x19, 152, 207], // active set
-];
-
-// An offset that no set has.
-pub const NO_OFFSET: usize = 256;
-
+// Bytes of a page, from the first to the last.
 #[derive(Clone, Copy)]
 pub struct Range {
     pub page: usize,
@@ -31,72 +22,80 @@ pub struct Address {
     pub byte: usize,
 }
 
-fn row_at(set: usize) -> Line
-    requires { set < 3 }
-    ensures { result ≡ line_is set }
+impl Range {
+    // Whether an address is one of its bytes.
+    fn has(self, page: usize, byte: usize) -> bool
+        ensures { result ≡ is_inside self page byte }
+    {
+        page == self.page && (self.first..=self.last).contains(&byte)
+    }
+}
+
+// The page, its first and last byte; the overflow page, its first and last byte.
+fn row(
+    page: usize,
+    first: usize,
+    last: usize,
+    over: usize,
+    over_first: usize,
+    over_last: usize,
+) -> Line
+    ensures { result ≡ row_as page first last over over_first over_last }
 {
-    let rows = ROWS;
-    let row = rows[set];
     Line {
-        main: Range {
-            page: row[0] as usize,
-            first: row[1] as usize,
-            last: row[2] as usize,
-        },
+        main: Range { page, first, last },
         overflow: Range {
-            page: row[3] as usize,
-            first: row[4] as usize,
-            last: row[5] as usize,
+            page: over,
+            first: over_first,
+            last: over_last,
         },
     }
 }
 
 // The line of a set; a set that doesn't exist has that of the active set.
+#[tactic(auto, unfolding(rules::specs::Address::line_of))]
 fn line_of(set: usize) -> Line
     ensures { result ≡ line_is set }
 {
-    if set < 2 {
-        return row_at(set);
+    match set {
+        0 => row(0x10, 153, 175, 0x18, 144, 199), // staged set 0
+        1 => row(0x10, 188, 210, 0x18, 200, 255), // staged set 1
+        _ => row(0x11, 214, 234, 0x19, 152, 207), // active set
     }
-    row_at(2)
 }
 
-// The address of an offset of a set: page 0 and byte 0 past the last byte that the table gives it.
-pub fn address_of(set: usize, offset: usize) -> Address
+// The address of an offset of a set, where the table gives it one.
+pub fn address_of(set: usize, offset: usize) -> Option<Address>
     ensures { result ≡ address_is set offset }
 {
-    let line = line_of(set);
-    let main = line.main;
-    let overflow = line.overflow;
+    let Line { main, overflow } = line_of(set);
     let bytes = main.last + 1 - main.first;
     if offset < bytes {
-        return Address {
+        return Some(Address {
             page: main.page,
             byte: main.first + offset,
-        };
+        });
     }
     let past = offset - bytes;
     if past < overflow.last + 1 - overflow.first {
-        return Address {
+        return Some(Address {
             page: overflow.page,
             byte: overflow.first + past,
-        };
+        });
     }
-    Address { page: 0, byte: 0 }
+    None
 }
 
-// The offset of an address of a set; one that no set has, where the table doesn't give the address to this set.
-pub fn offset_of(set: usize, page: usize, byte: usize) -> usize
+// The offset of an address of a set, where the table gives the address to it.
+pub fn offset_of(set: usize, page: usize, byte: usize) -> Option<usize>
     ensures { result ≡ offset_is set page byte }
 {
-    let line = line_of(set);
-    let main = line.main;
-    let overflow = line.overflow;
-    if (page == main.page) & ((main.first <= byte) & (byte <= main.last)) {
-        return byte - main.first;
+    let Line { main, overflow } = line_of(set);
+    if main.has(page, byte) {
+        return Some(byte - main.first);
     }
-    if (page == overflow.page) & ((overflow.first <= byte) & (byte <= overflow.last)) {
-        return main.last + 1 - main.first + (byte - overflow.first);
+    if !overflow.has(page, byte) {
+        return None;
     }
-    NO_OFFSET
+    Some(main.last + 1 - main.first + (byte - overflow.first))
 }

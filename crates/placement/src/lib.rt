@@ -6,16 +6,17 @@ mod address;
 ghost use Rattle.std.specs.Prelude.{◌≡◌, ◌≤◌, ◌<◌, Ok};
 ghost use Rattle.rules.specs.Beside.{placed_in, place_of, owner_call, owner_at_call};
 ghost use Rattle.placement.specs.Owner.{field_in, Near, owned_from};
+ghost use Rattle.descriptor.specs.Lent.{over};
 
-use crate::address::{address_of, offset_of};
-use descriptor::{Covered, cover, find};
+use crate::address::{Address, address_of, offset_of};
+use descriptor::{Covered, Descriptors};
 use rules::{Field, Owned, Placed, Refusal};
 
 // A place in a set: its offset, the address of this offset, and its lowest bit.
 fn placed_in(set: usize, offset: usize, bit: usize) -> Placed
     ensures { Ok result ≡ placed_in set offset bit }
 {
-    let at = address_of(set, offset);
+    let at = address_of(set, offset).unwrap_or(Address { page: 0, byte: 0 });
     Placed {
         offset,
         page: at.page,
@@ -25,27 +26,19 @@ fn placed_in(set: usize, offset: usize, bit: usize) -> Placed
 }
 
 // Place: a field's offset in a set, its page and byte by Table 4-1, and its lowest bit there; refused as read is.
-pub fn place(
-    count: usize,
-    rw: &[u8],
-    ro: &[u8],
-    set: usize,
-    entry: usize,
-    part: usize,
-    lane: usize,
-) -> Result<Placed, Refusal>
-    ensures { result ≡ place_of count rw.now ro.now set entry part lane }
+pub fn place(desc: Descriptors, set: usize, field: Field) -> Result<Placed, Refusal>
+    ensures { result ≡ over place_of desc.entry set field.entry field.part field.lane }
 {
     // Place takes no bank: none is too short.
-    let f = find(count, rw, ro, false, entry, part, lane)?;
+    let f = desc.find(false, field)?;
     if !(set < 3) {
         return Err(Refusal::Plain(10));
     }
     if (set < 2) & f.ro {
         return Err(Refusal::Plain(11));
     }
-    let first = (lane - 1) * f.width;
-    let offset = f.offset + part * f.width + first / 8;
+    let first = (field.lane - 1) * f.width;
+    let offset = f.offset + field.part * f.width + first / 8;
     Ok(placed_in(set, offset, first % 8))
 }
 
@@ -94,34 +87,28 @@ fn owned(covered: Option<Covered>, set: usize, offset: usize, bit: usize) -> Res
 }
 
 // Owner: the field that a bit of a set belongs to, none in a gap, and the number of entries looked at.
-pub fn owner(
-    count: usize,
-    rw: &[u8],
-    ro: &[u8],
-    set: usize,
-    offset: usize,
-    bit: usize,
-) -> Result<Owned, Refusal>
-    ensures { result ≡ owner_call count rw.now ro.now set offset bit }
+pub fn owner(desc: Descriptors, set: usize, offset: usize, bit: usize) -> Result<Owned, Refusal>
+    ensures { result ≡ over owner_call desc.entry set offset bit }
 {
-    let covered = cover(count, rw, ro, offset)?;
+    let covered = desc.cover(offset)?;
     owned(covered, set, offset, bit)
 }
 
 // Owner by an address, the page and byte that Table 4-1 gives an offset of the set. A call of `owner` here would keep `owner` from being
 // inlined in its export.
 pub fn owner_at(
-    count: usize,
-    rw: &[u8],
-    ro: &[u8],
+    desc: Descriptors,
     set: usize,
     page: usize,
     byte: usize,
     bit: usize,
 ) -> Result<Owned, Refusal>
-    ensures { result ≡ owner_at_call count rw.now ro.now set page byte bit }
+    ensures { result ≡ over owner_at_call desc.entry set page byte bit }
 {
-    let offset = offset_of(set, page, byte);
-    let covered = cover(count, rw, ro, offset)?;
+    let Some(offset) = offset_of(set, page, byte) else {
+        desc.load()?;
+        return Err(Refusal::Plain(10));
+    };
+    let covered = desc.cover(offset)?;
     owned(covered, set, offset, bit)
 }

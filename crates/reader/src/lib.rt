@@ -5,7 +5,7 @@ ghost use Rattle.std.specs.Prelude.{◌≡◌, length};
 ghost use Rattle.rules.specs.Reader.{take_of};
 ghost use Rattle.reader.specs.Take.{EndsWithin, taking_of, reader_of, taken_by, moved_by};
 
-use descriptor::{least_length, limits};
+use descriptor::{Descriptors, least_length};
 use rules::{Refusal, Taken};
 
 // What a reader takes, and the position after it: another one only past an entry.
@@ -21,7 +21,12 @@ fn take_at(count: usize, s: &[u8], at: usize) -> Result<Option<Taken>, Refusal>
     ensures answer { result ≡ take_of count s.now at }
     ensures inside { EndsWithin (length s.now) result }
 {
-    if !limits(count, s, &s[..0]) {
+    let alone = Descriptors {
+        count,
+        rw: s,
+        ro: &s[..0],
+    };
+    if !alone.limits() {
         return Err(Refusal::Plain(9));
     }
     if s.len() <= at {

@@ -19,37 +19,37 @@ pub use crate::flat::{
 use control_set::{
     apply, byte_read, byte_write, fresh, perform, publish, read, select, weight, write,
 };
-use descriptor::{load, locate, pass, resume};
+use descriptor::Descriptors;
 use placement::{owner, owner_at, place};
 use reader::take_from;
-use rules::{Call, State};
+use rules::{Call, Field, State};
 
 // The load: both entry counts, staged and active length.
 pub fn vcs_load(count: usize, rw: &[u8], ro: &[u8]) -> FlatLoaded
     ensures { result ≡ flat_loaded (load_of count rw.now ro.now) }
 {
-    FlatLoaded::from(load(count, rw, ro))
+    FlatLoaded::from(Descriptors { count, rw, ro }.load())
 }
 
 // One entry of a load that is made entry by entry: its length and the state after it, or the end (1).
 pub fn vcs_pass(count: usize, rw: &[u8], ro: &[u8], state: FlatState) -> FlatPassed
     ensures { result ≡ flat_passed (pass_of count (state_of state) rw.now ro.now) }
 {
-    FlatPassed::from(pass(count, rw, ro, State::from(state)))
+    FlatPassed::from(Descriptors { count, rw, ro }.pass(State::from(state)))
 }
 
 // The load taken up again after an entry.
 pub fn vcs_resume(count: usize, rw: &[u8], ro: &[u8], state: FlatState) -> FlatLoaded
     ensures { result ≡ flat_loaded (resume_of count (state_of state) rw.now ro.now) }
 {
-    FlatLoaded::from(resume(count, rw, ro, State::from(state)))
+    FlatLoaded::from(Descriptors { count, rw, ro }.resume(State::from(state)))
 }
 
 // The entry call: which string (0 RW, 1 RO), start and length there, and the offset in a set.
 pub fn vcs_entry(count: usize, rw: &[u8], ro: &[u8], entry: usize) -> FlatEntry
     ensures { result ≡ flat_entry (located_of count rw.now ro.now entry) }
 {
-    FlatEntry::from(locate(count, rw, ro, entry))
+    FlatEntry::from(Descriptors { count, rw, ro }.locate(entry))
 }
 
 // Place: a field's offset in a set, its page and byte, and its lowest bit there.
@@ -64,7 +64,11 @@ pub fn vcs_place(
 ) -> FlatPlaced
     ensures { result ≡ flat_placed (place_of count rw.now ro.now set entry part lane) }
 {
-    FlatPlaced::from(place(count, rw, ro, set, entry, part, lane))
+    FlatPlaced::from(place(
+        Descriptors { count, rw, ro },
+        set,
+        Field { entry, part, lane },
+    ))
 }
 
 // Owner: the field that a bit of a set belongs to, or gap (1), and the number of entries looked at.
@@ -78,7 +82,7 @@ pub fn vcs_owner(
 ) -> FlatOwned
     ensures { result ≡ flat_owned (owner_call count rw.now ro.now set offset bit) }
 {
-    FlatOwned::from(owner(count, rw, ro, set, offset, bit))
+    FlatOwned::from(owner(Descriptors { count, rw, ro }, set, offset, bit))
 }
 
 // Owner by an address: the same of a bit of a byte of a page.
@@ -93,7 +97,7 @@ pub fn vcs_owner_at(
 ) -> FlatOwned
     ensures { result ≡ flat_owned (owner_at_call count rw.now ro.now set page byte bit) }
 {
-    FlatOwned::from(owner_at(count, rw, ro, set, page, byte, bit))
+    FlatOwned::from(owner_at(Descriptors { count, rw, ro }, set, page, byte, bit))
 }
 
 // Fresh: the bank cleared, and both entry counts, staged and active length.
@@ -101,7 +105,7 @@ pub fn vcs_fresh(count: usize, rw: &[u8], ro: &[u8], bank: &mut [u8]) -> FlatLoa
     ensures answer { result ≡ flat_loaded (fresh_call count rw.now ro.now bank.old).0 }
     ensures after { bank.new ≡ (fresh_call count rw.now ro.now bank.old).1 }
 {
-    FlatLoaded::from(fresh(count, rw, ro, bank))
+    FlatLoaded::from(fresh(Descriptors { count, rw, ro }, bank))
 }
 
 // Select: the AppSel of a lane of a staged set is stored.
@@ -117,7 +121,7 @@ pub fn vcs_select(
     ensures answer { result ≡ flat_answer (bank_call count rw.now ro.now (Call.Select set lane app) bank.old).0 }
     ensures after { bank.new ≡ (bank_call count rw.now ro.now (Call.Select set lane app) bank.old).1 }
 {
-    FlatAnswer::from(select(count, rw, ro, bank, set, lane, app))
+    FlatAnswer::from(select(Descriptors { count, rw, ro }, bank, set, lane, app))
 }
 
 // Write: an accepted value is stored in a field of a staged set.
@@ -135,7 +139,13 @@ pub fn vcs_write(
     ensures answer { result ≡ flat_answer (bank_call count rw.now ro.now (Call.Write set entry part lane value) bank.old).0 }
     ensures after { bank.new ≡ (bank_call count rw.now ro.now (Call.Write set entry part lane value) bank.old).1 }
 {
-    FlatAnswer::from(write(count, rw, ro, bank, set, entry, part, lane, value))
+    FlatAnswer::from(write(
+        Descriptors { count, rw, ro },
+        bank,
+        set,
+        Field { entry, part, lane },
+        value,
+    ))
 }
 
 // Read: the number of a field.
@@ -151,7 +161,12 @@ pub fn vcs_read(
 ) -> FlatAnswer
     ensures answer { result ≡ flat_answer (bank_call count rw.now ro.now (Call.Read set entry part lane) bank.now).0 }
 {
-    FlatAnswer::from(read(count, rw, ro, bank, set, entry, part, lane))
+    FlatAnswer::from(read(
+        Descriptors { count, rw, ro },
+        bank,
+        set,
+        Field { entry, part, lane },
+    ))
 }
 
 // Byte write: each field in a byte of a staged set takes its own bits, and its gaps become 0.
@@ -167,7 +182,7 @@ pub fn vcs_byte_write(
     ensures answer { result ≡ flat_answer (bank_call count rw.now ro.now (Call.ByteWrite set offset value) bank.old).0 }
     ensures after { bank.new ≡ (bank_call count rw.now ro.now (Call.ByteWrite set offset value) bank.old).1 }
 {
-    FlatAnswer::from(byte_write(count, rw, ro, bank, set, offset, value))
+    FlatAnswer::from(byte_write(Descriptors { count, rw, ro }, bank, set, offset, value))
 }
 
 // Byte read: a byte of a set, its gaps as 0.
@@ -181,7 +196,7 @@ pub fn vcs_byte_read(
 ) -> FlatAnswer
     ensures { result ≡ flat_answer (bank_call count rw.now ro.now (Call.ByteRead set offset) bank.now).0 }
 {
-    FlatAnswer::from(byte_read(count, rw, ro, bank, set, offset))
+    FlatAnswer::from(byte_read(Descriptors { count, rw, ro }, bank, set, offset))
 }
 
 // Publish: an accepted value is stored in a field of an RO entry.
@@ -198,7 +213,12 @@ pub fn vcs_publish(
     ensures answer { result ≡ flat_answer (bank_call count rw.now ro.now (Call.Publish entry part lane value) bank.old).0 }
     ensures after { bank.new ≡ (bank_call count rw.now ro.now (Call.Publish entry part lane value) bank.old).1 }
 {
-    FlatAnswer::from(publish(count, rw, ro, bank, entry, part, lane, value))
+    FlatAnswer::from(publish(
+        Descriptors { count, rw, ro },
+        bank,
+        Field { entry, part, lane },
+        value,
+    ))
 }
 
 // Apply: the fields of the chosen lanes are copied from a staged set to the active set, all or nothing.
@@ -213,7 +233,7 @@ pub fn vcs_apply(
     ensures answer { result ≡ flat_answer (bank_call count rw.now ro.now (Call.Apply set lanes) bank.old).0 }
     ensures after { bank.new ≡ (bank_call count rw.now ro.now (Call.Apply set lanes) bank.old).1 }
 {
-    FlatAnswer::from(apply(count, rw, ro, bank, set, lanes))
+    FlatAnswer::from(apply(Descriptors { count, rw, ro }, bank, set, lanes))
 }
 
 // Perform: any of the seven calls, by its kind.
@@ -227,7 +247,7 @@ pub fn vcs_perform(
     ensures answer { result ≡ flat_answer (bank_call count rw.now ro.now (call_of call) bank.old).0 }
     ensures after { bank.new ≡ (bank_call count rw.now ro.now (call_of call) bank.old).1 }
 {
-    FlatAnswer::from(perform(count, rw, ro, bank, Call::from(call)))
+    FlatAnswer::from(perform(Descriptors { count, rw, ro }, bank, Call::from(call)))
 }
 
 // Weight: the active number of a lane of a 12h entry, in thousandths.
@@ -241,7 +261,7 @@ pub fn vcs_weight(
 ) -> FlatAnswer
     ensures { result ≡ flat_answer (weight_call count rw.now ro.now bank.now entry lane) }
 {
-    FlatAnswer::from(weight(count, rw, ro, bank, entry, lane))
+    FlatAnswer::from(weight(Descriptors { count, rw, ro }, bank, entry, lane))
 }
 
 // What a reader takes at a position: the next entry's start and length, or the end (1), and the position after it.

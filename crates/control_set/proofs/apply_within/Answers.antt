@@ -24,10 +24,10 @@ returns-then-set-eq2 c =
     let g = c.args in
     answered (apply-11 g.count g.rw.now g.ro.now _ _ _ _ (sym c.in_ok-loaded.ensures) g.set g.lanes g.bank.now c.requires.1 (lt-ltb g.set 3 (omega arith)) (eq-eqb _ 2 c.if-set-eq2.true)) refl refl
 
-pub returns-then-none-ne0 : goal.returns-then-none-ne0
-returns-then-none-ne0 c =
+pub returns-in-Some : goal.returns-in-Some
+returns-in-Some c =
     let g = c.args in
-    answered (apply-13 g.count g.rw.now g.ro.now _ _ _ _ (sym c.in_ok-loaded.ensures) g.set g.lanes g.bank.now c.requires.1 (lt-ltb g.set 3 (omega arith)) (ne_eqb _ 2 c.if-set-eq2.false) c.lacking.result c.lacking.ensures c.lowest_lane-none.ensures c.if-none-ne0.true) refl refl
+    answered (apply-13 g.count g.rw.now g.ro.now _ _ _ _ (sym c.in_ok-loaded.ensures) g.set g.lanes g.bank.now c.requires.1 (lt-ltb g.set 3 (omega arith)) (ne_eqb _ 2 c.if-set-eq2.false) c.lacking.result c.lacking.ensures c.lowest_lane.ensures c.in-Some.lane c.in-Some.is) refl refl
 
 pub plan_all-requires : goal.plan_all-requires
 plan_all-requires c =
@@ -35,8 +35,10 @@ plan_all-requires c =
     record {
       walk = (
         walk g.count g.rw.now g.ro.now _ _ _ _ (sym c.in_ok-loaded.ensures) (λ i. (c.type_inv.rw i).fits),
-        apply-asked g.count g.rw.now g.ro.now _ _ _ _ (sym c.in_ok-loaded.ensures) g.set g.lanes g.bank.now c.requires.1 (omega arith),
-        apply-clear g.count g.rw.now g.ro.now _ _ _ _ (sym c.in_ok-loaded.ensures) g.set g.lanes g.bank.now c.requires.1 (lt-ltb g.set 3 (omega arith)) (ne_eqb _ 2 c.if-set-eq2.false) c.lacking.result c.lacking.ensures c.lowest_lane-none.ensures c.if-none-ne0.false,
+        record {
+          asked = apply-asked g.count g.rw.now g.ro.now _ _ _ _ (sym c.in_ok-loaded.ensures) g.set g.lanes g.bank.now c.requires.1 (omega arith);
+          apps = apply-clear g.count g.rw.now g.ro.now _ _ _ _ (sym c.in_ok-loaded.ensures) g.set g.lanes g.bank.now c.requires.1 (lt-ltb g.set 3 (omega arith)) (ne_eqb _ 2 c.if-set-eq2.false) c.lacking.result c.lacking.ensures c.lowest_lane.ensures c.in_default.is;
+        },
       );
       planned = planned-none _ _ _ _ refl (no-bits 264);
     }
@@ -49,10 +51,10 @@ copy_planned-requires c =
       none = staged-none g.count g.rw.now g.ro.now _ _ _ _ (sym c.in_ok-loaded.ensures) c.plan_all.ensures.after;
     }
 
-pub returns-then-bad-ne0 : goal.returns-then-bad-ne0
-returns-then-bad-ne0 c =
+pub returns-in-Some-lowest_lane : goal.returns-in-Some-lowest_lane
+returns-in-Some-lowest_lane c =
     let g = c.args in
-    answered (apply-14 g.count g.rw.now g.ro.now _ _ _ _ (sym c.in_ok-loaded.ensures) g.set g.lanes g.bank.now c.requires.1 (lt-ltb g.set 3 (omega arith)) (ne_eqb _ 2 c.if-set-eq2.false) c.lacking.result c.lacking.ensures c.lowest_lane-none.ensures c.if-none-ne0.false c.plan_all.result c.plan_all.ensures.refused c.lowest_lane-bad.ensures c.if-bad-ne0.true) refl refl
+    answered (apply-14 g.count g.rw.now g.ro.now _ _ _ _ (sym c.in_ok-loaded.ensures) g.set g.lanes g.bank.now c.requires.1 (lt-ltb g.set 3 (omega arith)) (ne_eqb _ 2 c.if-set-eq2.false) c.lacking.result c.lacking.ensures c.lowest_lane.ensures c.in_default.is c.plan_all.result c.plan_all.ensures.refused c.lowest_lane-2.ensures c.in-Some-lowest_lane.bad c.in-Some-lowest_lane.is) refl refl
 
 pub returns-in_err-loaded : goal.returns-in_err-loaded
 returns-in_err-loaded c =
@@ -63,5 +65,5 @@ returns-in_err-loaded c =
 pub returns : goal.returns
 returns c =
     let g = c.args in
-    answered (apply-done g.count g.rw.now g.ro.now _ _ _ _ (sym c.in_ok-loaded.ensures) g.set g.lanes g.bank.now c.requires.1 (lt-ltb g.set 3 (omega arith)) (ne_eqb _ 2 c.if-set-eq2.false) c.lacking.result c.lacking.ensures c.lowest_lane-none.ensures c.if-none-ne0.false c.plan_all.result c.plan_all.ensures.refused c.lowest_lane-bad.ensures c.if-bad-ne0.false) refl
+    answered (apply-done g.count g.rw.now g.ro.now _ _ _ _ (sym c.in_ok-loaded.ensures) g.set g.lanes g.bank.now c.requires.1 (lt-ltb g.set 3 (omega arith)) (ne_eqb _ 2 c.if-set-eq2.false) c.lacking.result c.lacking.ensures c.lowest_lane.ensures c.in_default.is c.plan_all.result c.plan_all.ensures.refused c.lowest_lane-2.ensures c.in_default-lowest_lane.is) refl
     (apply-copied g.count g.rw.now g.ro.now _ _ _ _ (sym c.in_ok-loaded.ensures) g.set g.lanes g.bank.now (λ j _. bytes (goal.at.returns c).In_ok-loaded j) c.plan_all.ensures.after c.copy_planned.ensures c.requires.1)

@@ -10,12 +10,12 @@ use Rattle.control_set.proofs.byte_write.Goals as goal
 pub returns-in_err-fields : goal.returns-in_err-fields
 returns-in_err-fields c =
     let g = c.args in
-    answered (byte-unreached g.count g.rw.now g.ro.now g.bank.now g.set g.offset (Call.ByteWrite g.set g.offset g.value) (byte-write-away g.count g.rw.now g.ro.now g.bank.now g.set g.offset g.value) _ c.in_err-fields.ensures) (handed-on _ c.from_residual.ensures.1) refl
+    answered (byte-unreached g.desc.count g.desc.rw.now g.desc.ro.now g.bank.now g.set g.offset (Call.ByteWrite g.set g.offset g.value) (byte-write-away g.desc.count g.desc.rw.now g.desc.ro.now g.bank.now g.set g.offset g.value) _ c.in_err-fields.ensures) (handed-on _ c.from_residual.ensures.1) refl
 
 pub returns-then-set-eq2 : goal.returns-then-set-eq2
 returns-then-set-eq2 c =
     let g = c.args in
-    answered (byte-write-11 g.count g.rw.now g.ro.now g.bank.now g.set g.offset c.in_ok-fields.ensures g.value c.if-set-eq2.true) refl refl
+    answered (byte-write-11 g.desc.count g.desc.rw.now g.desc.ro.now g.bank.now g.set g.offset c.in_ok-fields.ensures g.value c.if-set-eq2.true) refl refl
 
 pub byte_of-requires : goal.byte_of-requires
 byte_of-requires c = (named-has-bytes _ c.in_ok-fields.ensures.is_set, c.in_ok-fields.ensures.top)
@@ -23,7 +23,7 @@ byte_of-requires c = (named-has-bytes _ c.in_ok-fields.ensures.is_set, c.in_ok-f
 pub returns-then-fields : goal.returns-then-fields
 returns-then-fields c =
     let g = c.args in
-    let e = byte-write-done g.count g.rw.now g.ro.now g.bank.now g.set g.offset c.in_ok-fields.ensures g.value c.if-set-eq2.false (omega (arith, c.ranges.value)) in
+    let e = byte-write-done g.desc.count g.desc.rw.now g.desc.ro.now g.bank.now g.set g.offset c.in_ok-fields.ensures g.value c.if-set-eq2.false (omega (arith, c.ranges.value)) in
     answered (rw (c.if-fields.true, ← c.byte_of.ensures.0) at e) refl refl
 
 pub byte_of-requires-2 : goal.byte_of-requires-2
@@ -32,5 +32,5 @@ byte_of-requires-2 c = (named-has-bytes _ c.in_ok-fields.ensures.is_set, c.in_ok
 pub returns : goal.returns
 returns c =
     let g = c.args in
-    let e = byte-write-done g.count g.rw.now g.ro.now g.bank.now g.set g.offset c.in_ok-fields.ensures g.value c.if-set-eq2.false (omega (arith, c.ranges.value)) in
+    let e = byte-write-done g.desc.count g.desc.rw.now g.desc.ro.now g.bank.now g.set g.offset c.in_ok-fields.ensures g.value c.if-set-eq2.false (omega (arith, c.ranges.value)) in
     answered (rw (c.if-fields.false, ← c.byte_of-2.ensures.0) at e) refl refl

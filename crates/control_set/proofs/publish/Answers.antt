@@ -14,21 +14,21 @@ use Rattle.control_set.proofs.publish.Goals as goal
 use Rattle.control_set.proofs.publish.Goals.{In_ok-f, Else-not-f}
 
 -- what is passed: 10 and 11
-there : (c : In_ok-f) → let g = c.args in exists (map_of g.count g.rw.now g.ro.now) (Call.Publish g.entry g.part g.lane g.value) ≡ true
-there c = let g = c.args in publish-tested g.count g.rw.now g.ro.now g.bank.now c.in_ok-f.ensures g.value
+there : (c : In_ok-f) → let g = c.args in exists (map_of g.desc.count g.desc.rw.now g.desc.ro.now) (Call.Publish g.field.entry g.field.part g.field.lane g.value) ≡ true
+there c = let g = c.args in publish-tested g.desc.count g.desc.rw.now g.desc.ro.now g.bank.now c.in_ok-f.ensures g.value
 
-may : (c : Else-not-f) → let g = c.args in misdirected (map_of g.count g.rw.now g.ro.now) (Call.Publish g.entry g.part g.lane g.value) ≡ false
-may c = let g = c.args in publish-directed g.count g.rw.now g.ro.now g.bank.now c.in_ok-f.ensures g.value ∙ c.if-not-f.false
+may : (c : Else-not-f) → let g = c.args in misdirected (map_of g.desc.count g.desc.rw.now g.desc.ro.now) (Call.Publish g.field.entry g.field.part g.field.lane g.value) ≡ false
+may c = let g = c.args in publish-directed g.desc.count g.desc.rw.now g.desc.ro.now g.bank.now c.in_ok-f.ensures g.value ∙ c.if-not-f.false
 
 -- the field
-field : (c : In_ok-f) → let g = c.args in Field (map_of g.count g.rw.now g.ro.now) 2 g.entry g.part g.lane
-field c = let g = c.args in publish-there g.count g.rw.now g.ro.now g.bank.now c.in_ok-f.ensures
+field : (c : In_ok-f) → let g = c.args in Field (map_of g.desc.count g.desc.rw.now g.desc.ro.now) 2 g.field.entry g.field.part g.field.lane
+field c = let g = c.args in publish-there g.desc.count g.desc.rw.now g.desc.ro.now g.bank.now c.in_ok-f.ensures
 
 pub returns-in_err-f : goal.returns-in_err-f
 returns-in_err-f c =
     let g = c.args in
     answered
-    (call-unfound g.count g.rw.now g.ro.now g.bank.now g.entry g.part g.lane (Call.Publish g.entry g.part g.lane g.value) (λ l. no-publish g.count g.rw.now g.ro.now g.bank.now g.entry g.part g.lane l g.value) _ c.in_err-f.ensures)
+    (call-unfound g.desc.count g.desc.rw.now g.desc.ro.now g.bank.now g.field.entry g.field.part g.field.lane (Call.Publish g.field.entry g.field.part g.field.lane g.value) (λ l. no-publish g.desc.count g.desc.rw.now g.desc.ro.now g.bank.now g.field.entry g.field.part g.field.lane l g.value) _ c.in_err-f.ensures)
     (handed-on _ c.from_residual.ensures.1)
     refl
 
@@ -37,14 +37,14 @@ returns-then-not-f c =
     let g = c.args in
     let t = c.in_ok-f.ensures in
     answered
-    (call-11 g.count g.rw.now g.ro.now (Call.Publish g.entry g.part g.lane g.value) g.bank.now (entered-opened g.count g.rw.now g.ro.now g.bank.now t) (there (goal.at.returns-then-not-f c).In_ok-f) (publish-directed g.count g.rw.now g.ro.now g.bank.now t g.value ∙ c.if-not-f.true))
+    (call-11 g.desc.count g.desc.rw.now g.desc.ro.now (Call.Publish g.field.entry g.field.part g.field.lane g.value) g.bank.now (entered-opened g.desc.count g.desc.rw.now g.desc.ro.now g.bank.now t) (there (goal.at.returns-then-not-f c).In_ok-f) (publish-directed g.desc.count g.desc.rw.now g.desc.ro.now g.bank.now t g.value ∙ c.if-not-f.true))
     refl
     refl
 
 pub store-requires : goal.store-requires
 store-requires c =
     let g = c.args in
-    rw (to_z-of_z c.ranges.value) (storable g.count g.rw.now g.ro.now g.bank.now c.in_ok-f.ensures (field (goal.at.store-requires c).In_ok-f) g.value)
+    rw (to_z-of_z c.ranges.value) (storable g.desc.count g.desc.rw.now g.desc.ro.now g.bank.now c.in_ok-f.ensures (field (goal.at.store-requires c).In_ok-f) g.value)
 
 pub returns-then-not-store : goal.returns-then-not-store
 unfolding unaccepted bank_plan bank_does
@@ -53,7 +53,7 @@ returns-then-not-store c =
     let at = goal.at.returns-then-not-store c in
     let no = rw (to_z-of_z c.ranges.value) at c.store.ensures.answer in
     answered
-    (call-stores g.count g.rw.now g.ro.now g.bank.now c.in_ok-f.ensures (Call.Publish g.entry g.part g.lane g.value) 2 g.value (field at.In_ok-f) (there at.In_ok-f) (may at.Else-not-f) refl refl refl)
+    (call-stores g.desc.count g.desc.rw.now g.desc.ro.now g.bank.now c.in_ok-f.ensures (Call.Publish g.field.entry g.field.part g.field.lane g.value) 2 g.value (field at.In_ok-f) (there at.In_ok-f) (may at.Else-not-f) refl refl refl)
     (rw (sym no ∙ c.if-not-store.true) refl)
     (rw (to_z-of_z c.ranges.value) at c.store.ensures.after)
 
@@ -64,6 +64,6 @@ returns c =
     let at = goal.at.returns c in
     let yes = rw (to_z-of_z c.ranges.value) at c.store.ensures.answer in
     answered
-    (call-stores g.count g.rw.now g.ro.now g.bank.now c.in_ok-f.ensures (Call.Publish g.entry g.part g.lane g.value) 2 g.value (field at.In_ok-f) (there at.In_ok-f) (may at.Else-not-f) refl refl refl)
+    (call-stores g.desc.count g.desc.rw.now g.desc.ro.now g.bank.now c.in_ok-f.ensures (Call.Publish g.field.entry g.field.part g.field.lane g.value) 2 g.value (field at.In_ok-f) (there at.In_ok-f) (may at.Else-not-f) refl refl refl)
     (rw (sym yes ∙ c.if-not-store.false) refl)
     (rw (to_z-of_z c.ranges.value) at c.store.ensures.after)

@@ -1,7 +1,6 @@
 -- `weight` meets its contract: refused by the gate, or 10, or the active number of a 12h field by its step.
-use Rattle.std.proofs.Common.{◌≡◌, true, ap, ◌∙◌, eq-eqb, w64, to_z, of_z}
+use Rattle.std.proofs.Common.{◌≡◌, true, sym, ap, ◌∙◌, w64, to_z, of_z}
 use mir.Facts.{to_z-of_z}
-use borrow.Author.Tests.{ne_eqb}
 use Rattle.rules.specs.Words.{number}
 use Rattle.rules.proofs.Basics.Results.{handed-on}
 use Rattle.control_set.specs.Field.{bits_at}
@@ -18,21 +17,21 @@ numbered c = to_z-of_z {w = w64} (record { sfits = c.number_of.type_inv }) ∙ c
 pub returns-in_err-f : goal.returns-in_err-f
 returns-in_err-f c =
     let g = c.args in
-    handed-on _ c.from_residual.ensures.1 ∙ weight-unfound g.count g.rw.now g.ro.now g.bank.now g.entry g.lane _ c.in_err-f.ensures
+    handed-on _ c.from_residual.ensures.1 ∙ weight-unfound g.desc.count g.desc.rw.now g.desc.ro.now g.bank.now g.entry g.lane _ c.in_err-f.ensures
 
-pub returns-then-not-f : goal.returns-then-not-f
-returns-then-not-f c =
+pub returns-in_default : goal.returns-in_default
+returns-in_default c =
     let g = c.args in
-    weight-10 g.count g.rw.now g.ro.now g.bank.now g.entry g.lane c.in_ok-f.ensures (ne_eqb _ _ c.if-not-f.true)
+    weight-10 g.desc.count g.desc.rw.now g.desc.ro.now g.bank.now g.entry g.lane c.in_ok-f.ensures (sym c.in_default.is)
 
 pub read_field-bits-requires : goal.read_field-bits-requires
 read_field-bits-requires c =
     let g = c.args in
-    weight-spot g.count g.rw.now g.ro.now g.bank.now g.entry g.lane c.in_ok-f.ensures (eq-eqb _ _ c.if-not-f.false)
+    weight-spot g.desc.count g.desc.rw.now g.desc.ro.now g.bank.now g.entry g.lane c.in_ok-f.ensures c.in-Some.step (sym c.in-Some.is)
 
 pub returns : goal.returns
 returns c =
     let g = c.args in
     let w = rw (numbered (goal.at.returns c).After-number_of) at c.weight_of.ensures in
     ap number (to_z-of_z {w = w64} (record { sfits = c.weight_of.type_inv }) ∙ w)
-    ∙ weight-is g.count g.rw.now g.ro.now g.bank.now g.entry g.lane c.in_ok-f.ensures (eq-eqb _ _ c.if-not-f.false)
+    ∙ weight-is g.desc.count g.desc.rw.now g.desc.ro.now g.bank.now g.entry g.lane c.in_ok-f.ensures c.in-Some.step (sym c.in-Some.is)

@@ -1,26 +1,27 @@
 -- `range_read` meets its contract.
-use mathlib.Core.Path.{◌≡◌, refl, ap}
-use borrow.Author.Rules.{rules}
+use Rattle.std.proofs.Common.{refl}
 use borrow.Author.Tests.{le-leb, lt-leb}
-use mir.Syntax.{w64}
-use mir.Val.{to_z, of_z}
-use Rattle.descriptor.specs.declared.Named.{Named}
-use Rattle.descriptor.specs.declared.Range.{Range}
+use Rattle.rules.specs.Descriptor.{mask_bytes, entry_at}
 use Rattle.descriptor.specs.Reading.{range_by}
+use Rattle.descriptor.proofs.Accepts.{range-is}
+use Rattle.descriptor.proofs.Wides.{accepted-read}
 use Rattle.descriptor.proofs.range_read.Goals as goal
-
-abbrev range : Named → Range
-range f = record { low = f.low; high = f.high }
 
 pub returns-then-start-le120 : goal.returns-then-start-le120
 unfolding range_by
 returns-then-start-le120 c =
-    let f = c.named_by-f.result in
-    -- numbers, as the machine hands them on
-    let low : to_z w64 (of_z w64 f.low) ≡ f.low = search rules in
-    let high : to_z w64 (of_z w64 f.high) ≡ f.high = search rules in
-    rw (low, high, le-leb c.args.start 120 c.if-start-le120.true, ← c.mask_bytes.ensures.0)
-    (ap range c.named_by-f.ensures)
+    let g = c.args in
+    let a = mask_bytes g.count in
+    rw (
+      le-leb g.start 120 c.if-start-le120.true,
+      c.range.ensures,
+      c.accepted_at.ensures,
+      c.mask_bytes.ensures.0,
+      c.values_of-values.ensures,
+      c.byte_at.ensures,
+      accepted-read a g.s.now g.start 0,
+    )
+    (range-is (entry_at a g.s.now g.start 0))
 
 pub returns : goal.returns
 unfolding range_by

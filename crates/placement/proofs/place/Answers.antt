@@ -11,28 +11,28 @@ use Rattle.placement.proofs.place.Goals as goal
 use Rattle.placement.proofs.place.Goals.{In_ok-f}
 
 -- the entry that was found, in what the match binds
-in-map : (c : In_ok-f) → let g = c.args in InMap g.count g.rw.now g.ro.now g.entry g.part g.lane c.in_ok-f.f
-in-map c = let g = c.args in found-in g.count g.rw.now g.ro.now false g.entry g.part g.lane refl _ (sym c.in_ok-f.ensures)
+in-map : (c : In_ok-f) → let g = c.args in InMap g.desc.count g.desc.rw.now g.desc.ro.now g.field.entry g.field.part g.field.lane c.in_ok-f.f
+in-map c = let g = c.args in found-in g.desc.count g.desc.rw.now g.desc.ro.now false g.field.entry g.field.part g.field.lane refl _ (sym c.in_ok-f.ensures)
 
 -- the part and the lane are there; the width and the entry's offset are small
-there : (c : In_ok-f) → There c.args.part c.args.lane
-there c = let g = c.args in asked g.count g.rw.now g.ro.now (in-map c)
+there : (c : In_ok-f) → There c.args.field.part c.args.field.lane
+there c = let g = c.args in asked g.desc.count g.desc.rw.now g.desc.ro.now (in-map c)
 
 narrow : (c : In_ok-f) → c.in_ok-f.f.width < 16
-narrow c = let g = c.args in width-small g.count g.rw.now g.ro.now (in-map c)
+narrow c = let g = c.args in width-small g.desc.count g.desc.rw.now g.desc.ro.now (in-map c)
 
 offset : (c : In_ok-f) → c.in_ok-f.f.offset ≤ 256
-offset c = let g = c.args in offset-small g.count g.rw.now g.ro.now (in-map c)
+offset c = let g = c.args in offset-small g.desc.count g.desc.rw.now g.desc.ro.now (in-map c)
 
 pub returns-then-not-set : goal.returns-then-not-set
 returns-then-not-set c =
     let g = c.args in
-    placing-10 g.count g.rw.now g.ro.now (in-map (goal.at.returns-then-not-set c).In_ok-f) g.set (le-ltb g.set 3 c.if-not-set.true)
+    placing-10 g.desc.count g.desc.rw.now g.desc.ro.now (in-map (goal.at.returns-then-not-set c).In_ok-f) g.set (le-ltb g.set 3 c.if-not-set.true)
 
 pub returns-then-set-f : goal.returns-then-set-f
 returns-then-set-f c =
     let g = c.args in
-    placing-11 g.count g.rw.now g.ro.now (in-map (goal.at.returns-then-set-f c).In_ok-f) g.set (lt-ltb g.set 3 c.if-not-set.false) c.if-set-f.true
+    placing-11 g.desc.count g.desc.rw.now g.desc.ro.now (in-map (goal.at.returns-then-set-f c).In_ok-f) g.set (lt-ltb g.set 3 c.if-not-set.false) c.if-set-f.true
 
 pub overflow_sub-first : goal.overflow_sub-first
 overflow_sub-first c = omega (arith, there (goal.at.overflow_sub-first c).In_ok-f)
@@ -61,11 +61,11 @@ pub returns-in_err-f : goal.returns-in_err-f
 returns-in_err-f c =
     let g = c.args in
     handed-on _ c.from_residual.ensures.1 ∙
-    (place-refused g.count g.rw.now g.ro.now g.set g.entry g.part g.lane _
-    (found-refused g.count g.rw.now g.ro.now false g.entry g.part g.lane refl _ (sym c.in_err-f.ensures)))
+    (place-refused g.desc.count g.desc.rw.now g.desc.ro.now g.set g.field.entry g.field.part g.field.lane _
+    (found-refused g.desc.count g.desc.rw.now g.desc.ro.now false g.field.entry g.field.part g.field.lane refl _ (sym c.in_err-f.ensures)))
 
 pub returns : goal.returns
 returns c =
     let g = c.args in
     c.placed_in.ensures
-    ∙ placing-at g.count g.rw.now g.ro.now (in-map (goal.at.returns c).In_ok-f) g.set (lt-ltb g.set 3 c.if-not-set.false) c.if-set-f.false
+    ∙ placing-at g.desc.count g.desc.rw.now g.desc.ro.now (in-map (goal.at.returns c).In_ok-f) g.set (lt-ltb g.set 3 c.if-not-set.false) c.if-set-f.false

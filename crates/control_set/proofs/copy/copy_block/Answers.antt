@@ -1,6 +1,6 @@
 -- `copy_block` meets its contract.
+use mathlib.Core.Path.{◌≡◌}
 use Prim.Native.Nat.{◌+◌}
-use native.Mathlib.Nat.{add_assoc}
 use native.Mathlib.Omega.{arith}
 use lib.ListN.{get_or}
 use Rattle.rules.proofs.Bank.Places.{size-is, set-start-last, named-has-bytes}
@@ -14,11 +14,13 @@ byte_of-requires c = (named-has-bytes _ (omega arith), omega arith)
 pub slice_bounds-put_bits-end : goal.slice_bounds-put_bits-end
 slice_bounds-put_bits-end c = omega (arith, size-is)
 
-pub loop-k-preserved : goal.loop-k-preserved
-loop-k-preserved c =
-    let l = c.loop-k in
-    let at = c.args.from + l.k in (
-      omega arith,
-      rw (c.put_bits.ensures, mid-byte 512 256 at l.bank (omega arith) (omega (arith, size-is)) (λ x. merge_by x (get_or l.bank c.byte_of.result 0) (get_or c.args.plan.now at 0)), ← set-start-last 2 (omega arith), c.byte_of.ensures.0, ← add_assoc c.args.from l.k 1)
-          (λ b r. let m = l.invariant.1 b r in merged-next c.requires.0 (omega arith) (omega (arith, m.size)) m),
-    )
+pub loop-at-preserved : goal.loop-at-preserved
+loop-at-preserved c =
+    let l = c.loop-at in
+    rw (c.put_bits.ensures, mid-byte 512 256 l.at l.bank (omega arith) (omega (arith, size-is)) (λ x. merge_by x (get_or l.bank c.byte_of.result 0) (get_or c.args.plan.now l.at 0)), ← set-start-last 2 (omega arith), c.byte_of.ensures.0)
+    (λ b r. let m = l.invariant b r in merged-next c.requires.0 (omega arith) (omega (arith, m.size)) m)
+
+pub returns : goal.returns
+returns c =
+    let e : c.loop-at.at ≡ c.args.from + 32 = omega arith in
+    rw e at c.loop-at.invariant

@@ -1,5 +1,5 @@
 -- `copy_planned` meets its contract.
-use Rattle.std.specs.Prelude.{◌-◌, ◌*◌, ◌≤◌}
+use Rattle.std.specs.Prelude.{◌*◌, ◌≤◌}
 use Rattle.control_set.specs.Plan.{AllBytes, Merged}
 use Rattle.control_set.proofs.copy.copy_planned.Given as goal
 
@@ -9,6 +9,3 @@ invariant-loop-block l = record {
   bytes : AllBytes l.initial.bank;
   merged : Merged (32 * l.block) l.staged l.plan l.initial.bank l.bank;
 }
-
-abbrev pub decreases-loop-block : goal.decreases-loop-block
-decreases-loop-block l = 8 - l.block

@@ -13,8 +13,8 @@ use Rattle.control_set.proofs.gate.admit_byte_within.Goals.{In-Some}
 covering : (c : In-Some) →
     let g = c.args in
     let x = c.in-Some.by in
-    Covering g.count g.rw.now g.ro.now g.offset x.ro x.number x.offset x.parts x.width
-covering c = let g = c.args in (cover-one g.count g.rw.now g.ro.now g.offset _ _ _ _ _ _ (sym (ap Ok (sym c.in-Some.is) ∙ c.in_ok-covered.ensures))).0
+    Covering g.desc.count g.desc.rw.now g.desc.ro.now g.offset x.ro x.number x.offset x.parts x.width
+covering c = let g = c.args in (cover-one g.desc.count g.desc.rw.now g.desc.ro.now g.offset _ _ _ _ _ _ (sym (ap Ok (sym c.in-Some.is) ∙ c.in_ok-covered.ensures))).0
 
 small : (c : In-Some) →
     let g = c.args in
@@ -22,19 +22,19 @@ small : (c : In-Some) →
     (x.offset ≤ g.offset) × (g.offset < 256) × (x.parts < 16) × (x.width < 16)
 small c =
     let g = c.args in
-    byte-small g.count g.rw.now g.ro.now g.size g.set g.offset (sym c.if-not-limits.ensures) (omega (arith, size-is)) (covering c)
+    byte-small g.desc.count g.desc.rw.now g.desc.ro.now g.size g.set g.offset (sym c.if-not-limits.ensures) (omega (arith, size-is)) (covering c)
 
 pub returns-then-not-limits : goal.returns-then-not-limits
-returns-then-not-limits c = λ rest _. let g = c.args in bank-order-9 g.count g.rw.now g.ro.now rest g.size (sym c.if-not-limits.ensures)
+returns-then-not-limits c = λ rest _. let g = c.args in bank-order-9 g.desc.count g.desc.rw.now g.desc.ro.now rest g.size (sym c.if-not-limits.ensures)
 
 pub returns-then-size-lt-BANK_SIZE : goal.returns-then-size-lt-BANK_SIZE
 returns-then-size-lt-BANK_SIZE c =
-    λ rest _. let g = c.args in bank-order-8 g.count g.rw.now g.ro.now rest g.size (sym c.if-not-limits.ensures) (omega (arith, size-is))
+    λ rest _. let g = c.args in bank-order-8 g.desc.count g.desc.rw.now g.desc.ro.now rest g.size (sym c.if-not-limits.ensures) (omega (arith, size-is))
 
 pub returns-then-not-set-by : goal.returns-then-not-set-by
 returns-then-not-set-by c =
     let g = c.args in
-    byte-10 g.count g.rw.now g.ro.now g.size g.set g.offset (sym c.if-not-limits.ensures) (omega (arith, size-is))
+    byte-10 g.desc.count g.desc.rw.now g.desc.ro.now g.size g.set g.offset (sym c.if-not-limits.ensures) (omega (arith, size-is))
     (covering (goal.at.returns-then-not-set-by c).In-Some) c.if-not-set-by.true
 
 pub overflow_sub-result : goal.overflow_sub-result
@@ -52,16 +52,16 @@ pub returns-in_err-covered : goal.returns-in_err-covered
 returns-in_err-covered c =
     let g = c.args in
     rw (handed-on _ c.from_residual.ensures.1)
-    (λ rest _. byte-refused g.count g.rw.now g.ro.now g.size g.set g.offset (sym c.if-not-limits.ensures) (omega (arith, size-is)) _ (sym c.in_err-covered.ensures) rest)
+    (λ rest _. byte-refused g.desc.count g.desc.rw.now g.desc.ro.now g.size g.set g.offset (sym c.if-not-limits.ensures) (omega (arith, size-is)) _ (sym c.in_err-covered.ensures) rest)
 
 pub returns-in_default : goal.returns-in_default
 returns-in_default c =
     let g = c.args in
-    byte-none g.count g.rw.now g.ro.now g.size g.set g.offset (sym c.if-not-limits.ensures) (omega (arith, size-is))
+    byte-none g.desc.count g.desc.rw.now g.desc.ro.now g.size g.set g.offset (sym c.if-not-limits.ensures) (omega (arith, size-is))
     (sym (ap Ok (sym c.in_default.is) ∙ c.in_ok-covered.ensures))
 
 pub returns : goal.returns
 returns c =
     let g = c.args in
-    byte-has g.count g.rw.now g.ro.now g.size g.set g.offset (sym c.if-not-limits.ensures) (omega (arith, size-is))
+    byte-has g.desc.count g.desc.rw.now g.desc.ro.now g.size g.set g.offset (sym c.if-not-limits.ensures) (omega (arith, size-is))
     (covering (goal.at.returns c).In-Some) c.if-not-set-by.false

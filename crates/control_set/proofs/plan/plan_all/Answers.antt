@@ -16,34 +16,34 @@ use Rattle.control_set.proofs.plan.plan_all.Goals.{After-entry_read-entry, then-
 -- the next entry is read
 known : (c : After-entry_read-entry) →
     let count = c.args.chosen.count in
-    let e = rw_entry count c.args.rw.now c.loop-number.number in
-    let next = mark_after (mask_bytes count) c.args.rw.now 0 (suc c.loop-number.number) in
+    let e = rw_entry count c.args.rw.now c.loop.counter in
+    let next = mark_after (mask_bytes count) c.args.rw.now 0 (suc c.loop.counter) in
     ◌≡◌ {A = Read} c.entry_read-entry.result (record { mask = e.mask; named = named_of false e; next = next.at; end = next.sum })
 known c =
-    let i = c.loop-number.invariant in
-    c.entry_read-entry.ensures ∙ rw (i.1, i.2) (c.requires.walk.0.read _ c.loop-number-test.true)
+    let i = c.loop.invariant in
+    c.entry_read-entry.ensures ∙ rw (i.1, i.2) (c.requires.walk.0.read _ c.loop-test.true)
 
 -- and its fields
 fields : (c : After-entry_read-entry) →
     let r = c.entry_read-entry.result.named in
-    ◌≡◌ {A = Fields} (record { offset = c.loop-number.offset; parts = r.parts; width = r.width }) (fields_of (rw_entry c.args.chosen.count c.args.rw.now c.loop-number.number))
+    ◌≡◌ {A = Fields} (record { offset = c.loop.offset; parts = r.parts; width = r.width }) (fields_of (rw_entry c.args.chosen.count c.args.rw.now c.loop.counter))
 unfolding named_of
 fields c =
-    let o = c.loop-number.invariant.2 ∙ ap (λ (x : Entry). x.offset) (c.requires.walk.0.is _ c.loop-number-test.true) in
+    let o = c.loop.invariant.2 ∙ ap (λ (x : Entry). x.offset) (c.requires.walk.0.is _ c.loop-test.true) in
     rw (o, ap (λ (x : Read). x.named.parts) (known c), ap (λ (x : Read). x.named.width) (known c)) refl
 
 whole : (c : After-entry_read-entry) → 0 < c.entry_read-entry.result.named.parts → Width c.entry_read-entry.result.named.width
 whole c h =
     let f = fields c in
-    let w = (c.requires.walk.0.arranged.spread _ c.loop-number-test.true).whole in
+    let w = (c.requires.walk.0.arranged.spread _ c.loop-test.true).whole in
     rw (ap (λ (x : Fields). x.width) f) (w (rw (ap (λ (x : Fields). x.parts) f) at h))
 
 none : {n : ℕ} → n ≤ 0 → n ≡ 0
 none h = omega arith
 
-pub loop-number-init : goal.loop-number-init
+pub loop-init : goal.loop-init
 unfolding mark_after
-loop-number-init c = (omega arith, refl, refl, upto-none _ _ _ _ _ refl (no-bits 9) c.requires.planned)
+loop-init c = (omega arith, refl, refl, upto-none _ _ _ _ _ refl (no-bits 9) c.requires.planned)
 
 pub offset_bounds-spreads-width : goal.offset_bounds-spreads-width
 offset_bounds-spreads-width c =
@@ -58,24 +58,24 @@ pub plan_entry-requires : goal.plan_entry-requires
 plan_entry-requires c =
     let r = (goal.at.plan_entry-requires c).After-entry_read-entry in
     let a = c.requires.walk.0.arranged in
-    let p = c.loop-number.invariant.3.planned in
+    let p = c.loop.invariant.3.planned in
     let k = fields r in
-    let h = c.loop-number-test.true in
+    let h = c.loop-test.true in
     (c.if-named-gt0.true, rw k (a.spread _ h), (c.lanes_of-last.ensures.cached.spread.by _ (whole r c.if-named-gt0.true)).room, p.size, rw k (planned-start a h p _))
 
 pub refused_lanes-bad-requires-clause-set_bound : goal.refused_lanes-bad-requires-clause-set_bound
 refused_lanes-bad-requires-clause-set_bound c =
     let r = (goal.at.refused_lanes-bad-requires-clause-set_bound c).After-entry_read-entry in
-    let (walk, asked, _) = c.requires.walk in
-    (asked.staged, asked.size, rw (fields r) (walk.arranged.spread _ c.loop-number-test.true), c.if-named-gt0.true)
+    let (walk, served) = c.requires.walk in
+    (served.asked.staged, served.asked.size, rw (fields r) (walk.arranged.spread _ c.loop-test.true), c.if-named-gt0.true)
 
 pub refused_lanes-bad-requires-clause-entry : goal.refused_lanes-bad-requires-clause-entry
 unfolding named_of
 refused_lanes-bad-requires-clause-entry c =
     let r = (goal.at.refused_lanes-bad-requires-clause-entry c).After-entry_read-entry in
     let walk = c.requires.walk.0 in
-    let h = c.loop-number-test.true in
-    let i = c.loop-number.invariant in
+    let h = c.loop-test.true in
+    let i = c.loop.invariant in
     let is = rw (← i.1, ← i.2) at (walk.is _ h) in
     record {
       low = rw i.1 (walk.low _ h);
@@ -83,19 +83,19 @@ refused_lanes-bad-requires-clause-entry c =
       fields = ap fields_of is ∙ sym (fields r);
     }
 
-pub loop-number-preserved : goal.loop-number-preserved
-loop-number-preserved c =
-    let r = (goal.at.loop-number-preserved c).After-entry_read-entry in
+pub loop-preserved : goal.loop-preserved
+loop-preserved c =
+    let r = (goal.at.loop-preserved c).After-entry_read-entry in
     let a = c.requires.walk.0.arranged in
-    let u = c.loop-number.invariant.3 in
+    let u = c.loop.invariant.3 in
     let k = fields r in
-    let h = c.loop-number-test.true in
+    let h = c.loop-test.true in
     let parts = ap (λ (x : Fields). x.parts) k in
     let width = ap (λ (x : Fields). x.width) k in
-    let i = c.loop-number.invariant in (
+    let i = c.loop.invariant in (
       omega arith,
-      rw (add-one c.loop-number.number) (ap (λ (x : Read). x.next) (known r)),
-      rw (add-one c.loop-number.number) (ap (λ (x : Read). x.end) (known r)),
+      rw (add-one c.loop.counter) (ap (λ (x : Read). x.next) (known r)),
+      rw (add-one c.loop.counter) (ap (λ (x : Read). x.end) (known r)),
       elim c.if-named-gt0.branch [
         | then-named-gt0 w ↦
             rw (w.plan-is, w.spreads-is, w.last-is, w.refused-is)

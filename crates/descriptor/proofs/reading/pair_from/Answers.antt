@@ -10,12 +10,7 @@ pub returns-then-at-s : goal.returns-then-at-s
 returns-then-at-s c =
     let h = c.byte_from.ensures in
     let l = c.byte_from-then-at-s.ensures in
-    record {
-      is = ap₂ (λ x y. x * 256 + y) h.0 l.0 ∙ sym (high-two c.args.s.now c.args.at);
-      small = omega (arith, h.1, l.1);
-      high = omega (arith, l.1, h.0);
-      low = omega (arith, l.1, l.0);
-    }
+    (ap₂ (λ x y. x * 256 + y) h.0 l.0 ∙ sym (high-two c.args.s.now c.args.at), omega (arith, h.1, l.1))
 
 pub returns : goal.returns
 returns c =
@@ -24,4 +19,4 @@ returns c =
     let l : length s ≤ at = c.if-at-s.false in
     let p = get_or-eq_default s 0 {n = at} l in
     let q = get_or-eq_default s 0 {n = at + 1} (omega arith) in
-    record { is = sym (high-two s at ∙ rw (p, q) refl); small = omega arith; high = sym p; low = sym q }
+    (sym (high-two s at ∙ rw (p, q) refl), omega arith)

@@ -1,16 +1,12 @@
 -- `look`: so many entries are passed, their spaces end at the byte or before it, and each was counted.
-use Rattle.std.proofs.Common.{◌≡◌, ◌+◌, ◌-◌, ◌≤◌}
+use Rattle.std.proofs.Common.{◌≡◌, ◌+◌, ◌≤◌}
 use Rattle.descriptor.specs.Marks.{mark_after}
 use Rattle.descriptor.proofs.search.look.Given as goal
 
 abbrev pub invariant-loop-number : goal.invariant-loop-number
 invariant-loop-number l =
     record {
-      few : l.number ≤ l.n;
       is : l.mark ≡ mark_after l.a l.s l.sum l.number;
       low : l.mark.sum ≤ l.offset;
-      counted : l.looked ≡ l.before + l.number;
+      counted : l.looked ≡ l.initial.looked + l.number;
     }
-
-abbrev pub decreases-loop-number : goal.decreases-loop-number
-decreases-loop-number l = l.n - l.number

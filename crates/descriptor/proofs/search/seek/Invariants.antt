@@ -1,10 +1,7 @@
 -- `seek`: so many entries are passed.
-use Rattle.std.proofs.Common.{◌≡◌, ◌-◌, ◌≤◌}
+use Rattle.std.proofs.Common.{◌≡◌}
 use Rattle.descriptor.specs.Marks.{mark_after}
 use Rattle.descriptor.proofs.search.seek.Given as goal
 
 abbrev pub invariant-loop-i : goal.invariant-loop-i
-invariant-loop-i l = (l.i ≤ l.n) × (l.mark ≡ mark_after l.a l.s l.sum l.i)
-
-abbrev pub decreases-loop-i : goal.decreases-loop-i
-decreases-loop-i l = l.n - l.i
+invariant-loop-i l = l.mark ≡ mark_after l.a l.s l.sum l._i

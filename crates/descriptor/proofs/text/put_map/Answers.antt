@@ -1,11 +1,12 @@
 -- `put_map` meets its contract.
 use mathlib.Core.Path.{refl}
 use native.Mathlib.Omega.{arith}
+use Rattle.std.proofs.Common.{rules}
 use Rattle.descriptor.proofs.Maps.{sizes, middle, end-sum, map-printed}
 use Rattle.descriptor.proofs.text.put_map.Goals as goal
 
-pub put_entries-one-requires-clause-ready : goal.put_entries-one-requires-clause-ready
-put_entries-one-requires-clause-ready c =
+pub entries-m-requires-clause-ready : goal.entries-m-requires-clause-ready
+entries-m-requires-clause-ready c =
     record {
       classes-is = refl;
       table-is = refl;
@@ -14,11 +15,11 @@ put_entries-one-requires-clause-ready c =
       short = (sizes _ _ _ c.requires).rw;
     }
 
-pub put_entries-one-requires-clause-s_bound : goal.put_entries-one-requires-clause-s_bound
-put_entries-one-requires-clause-s_bound c = let z = sizes _ _ _ c.requires in omega (arith, c.put_text-head.ensures.next, z.rw)
+pub entries-m-requires-clause-room : goal.entries-m-requires-clause-room
+entries-m-requires-clause-room c = let z = sizes _ _ _ c.requires in omega (arith, c.push_text.ensures.size, z.rw)
 
-pub put_entries-two-requires-clause-ready : goal.put_entries-two-requires-clause-ready
-put_entries-two-requires-clause-ready c =
+pub entries-e-requires-clause-ready : goal.entries-e-requires-clause-ready
+entries-e-requires-clause-ready c =
     record {
       classes-is = refl;
       table-is = refl;
@@ -27,32 +28,32 @@ put_entries-two-requires-clause-ready c =
       short = (sizes _ _ _ c.requires).ro;
     }
 
-pub put_entries-two-requires-clause-before_le_entry_limit : goal.put_entries-two-requires-clause-before_le_entry_limit
-put_entries-two-requires-clause-before_le_entry_limit c =
-    let one = rw (c.mask_bytes-a.ensures.0, c.start.ensures) at c.put_entries-one.ensures in
+pub entries-e-requires-clause-before_le_entry_limit : goal.entries-e-requires-clause-before_le_entry_limit
+entries-e-requires-clause-before_le_entry_limit c =
+    let one = rw (c.mask_bytes-a.ensures.0, c.start.ensures) at c.entries-m.ensures in
     let m = middle _ _ _ c.requires one in
     rw c.into_ro.ensures (m.few, m.sum)
 
-pub put_entries-two-requires-clause-s_bound : goal.put_entries-two-requires-clause-s_bound
-put_entries-two-requires-clause-s_bound c =
+pub entries-e-requires-clause-room : goal.entries-e-requires-clause-room
+entries-e-requires-clause-room c =
     let z = sizes _ _ _ c.requires in
-    let one = c.put_entries-one.ensures.put in
-    omega (arith, c.put_text-head.ensures.next, one.next, one.room, z.rw, z.ro)
+    let one = c.entries-m.ensures.adds in
+    omega (arith, c.push_text.ensures.size, one.size, one.room, z.rw, z.ro)
 
-pub put_end-requires : goal.put_end-requires
-put_end-requires c =
-    let one = rw (c.mask_bytes-a.ensures.0, c.start.ensures) at c.put_entries-one.ensures in
-    let two = rw (c.mask_bytes-a.ensures.0, c.into_ro.ensures) at c.put_entries-two.ensures in
+pub end-requires : goal.end-requires
+end-requires c =
+    let one = rw (c.mask_bytes-a.ensures.0, c.start.ensures) at c.entries-m.ensures in
+    let two = rw (c.mask_bytes-a.ensures.0, c.into_ro.ensures) at c.entries-e.ensures in
     let z = sizes _ _ _ c.requires in
     let staged = (middle _ _ _ c.requires one).sum in
     let active = end-sum _ _ _ c.requires one two in (
       omega (arith, staged, active),
       omega (arith, staged, active),
-      omega (arith, c.put_text-head.ensures.next, one.put.next, one.put.room, two.put.next, two.put.room, z.rw, z.ro),
+      omega (arith, c.push_text.ensures.size, one.adds.size, one.adds.room, two.adds.size, two.adds.room, z.rw, z.ro),
     )
 
 pub returns : goal.returns
 returns c =
-    let one = rw (c.mask_bytes-a.ensures.0, c.start.ensures) at c.put_entries-one.ensures in
-    let two = rw (c.mask_bytes-a.ensures.0, c.into_ro.ensures) at c.put_entries-two.ensures in
-    map-printed _ _ _ c.requires one two c.told-out c.put_text-head.ensures c.put_end.ensures
+    let one = rw (c.mask_bytes-a.ensures.0, c.start.ensures) at c.entries-m.ensures in
+    let two = rw (c.mask_bytes-a.ensures.0, c.into_ro.ensures) at c.entries-e.ensures in
+    map-printed _ _ _ c.requires one two c.push_text.ensures c.end.ensures c.told-out refl (search rules)

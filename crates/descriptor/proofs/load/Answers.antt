@@ -1,7 +1,0 @@
--- `load` meets its contract: it is `resume` from the beginning.
-use Rattle.std.proofs.Common.{sym, ◌∙◌}
-use Rattle.rules.proofs.Load.Resumes.{load-resumes}
-use Rattle.descriptor.proofs.load.Goals as goal
-
-pub returns : goal.returns
-returns c = rw c.start.ensures at c.resume.ensures ∙ sym (load-resumes c.args.count c.args.rw.now c.args.ro.now)
