@@ -17,7 +17,7 @@ use Rattle.rules.specs.Bank.{Bank, with_number, bank_plan, bank_does, bank_call}
 use Rattle.descriptor.specs.declared.Named.{Named}
 use Rattle.descriptor.specs.Find.{accepted_by}
 use Rattle.control_set.specs.Field.{with_bits}
-use Rattle.control_set.specs.Store.{Storable, store_of}
+use Rattle.control_set.specs.Store.{Storable, stored_by, store_of}
 use Rattle.control_set.proofs.Outcomes.{call-12, call-done}
 use Rattle.control_set.specs.Gate.{Entered}
 use Rattle.control_set.proofs.FieldCalls.{entered-opened, spot-there, stored-there, value-tested, value-bits}
@@ -35,7 +35,7 @@ module _ (count : ℕ) (first last : List ℕ) (b : Bank) {e p i : ℕ} {f : Nam
       → unaccepted (map_of count first last) c ≡ not (accepts (entry (map_of count first last) e) v)
       → first_of (bank_plan (map_of count first last) c b) ≡ passes
       → bank_does (map_of count first last) c b ≡ (says_yes, with_number (map_of count first last) b s e p i v)
-      → bank_call count first last c b ≡ (cond (accepted_by f v) says_yes (Err (plain 12)), store_of b s f p i v)
+      → bank_call count first last c b ≡ (stored_by f v, store_of b s f p i v)
   unfolding store_of
   call-stores c s v w h l u q d = go (accepted_by f v) refl
     where

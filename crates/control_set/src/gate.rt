@@ -37,21 +37,6 @@ pub fn admit_byte(
     if !desc.limits() {
         return Err(Refusal::Plain(9));
     }
-    admit_byte_within(desc, size, set, offset)
-}
-
-// The same, with its own look at the lengths (see `descriptor::cover`).
-fn admit_byte_within(
-    desc: Descriptors,
-    size: usize,
-    set: usize,
-    offset: usize,
-) -> Result<bool, Refusal>
-    ensures { over ByteGated desc.entry size set offset result }
-{
-    if !desc.limits() {
-        return Err(Refusal::Plain(9));
-    }
     if size < BANK_SIZE {
         return Err(Refusal::Plain(8));
     }

@@ -8,7 +8,7 @@ ghost use Rattle.control_set.specs.Plan.{Placed, Stands, passing, in_range, refu
 
 use crate::bank::read_field;
 use crate::lanes::{has_bit, lanes_where};
-use crate::number::number_of;
+use crate::plan::Chosen;
 use descriptor::{Range, has_range, patterns_read, range_read};
 
 // Where the fields of an entry lie in a set. That they lie in its 256 bytes is `Placed` and no invariant here: the laws make these of any
@@ -24,7 +24,7 @@ pub struct Fields {
 fn in_range(range: Range, bits: u8) -> bool
     ensures { result ≡ in_range range bits }
 {
-    range.has(number_of(true, bits))
+    range.has(i64::from(bits.cast_signed()))
 }
 
 // The lanes in which the bits of a field pass a test, in any part of some fields of this width, which is constant in each instance: as a
@@ -54,29 +54,28 @@ fn passing_lanes<const WIDTH: usize, F: Fn(u8) -> bool>(
 // The refused lanes of the entry at a place, which has this ID and these fields. One without patterns and without a range accepts every
 // number.
 pub fn refused_lanes(
-    set: usize,
-    count: usize,
-    s: &[u8],
+    chosen: Chosen,
+    rw: &[u8],
     start: usize,
     id: usize,
     f: Fields,
     bank: &[u8],
 ) -> u8
-    requires set_bound { (set < 2) × (bank_size ≤ length bank.now) × Placed f × (0 < f.parts) }
-    requires entry { Stands count s.now start id f }
-    ensures { Lanes 9 (refused_in set (entry_at (mask_bytes count) s.now start f.offset) bank.now) result }
+    requires set_bound { (chosen.set < 2) × (bank_size ≤ length bank.now) × Placed f × (0 < f.parts) }
+    requires entry { Stands chosen.count rw.now start id f }
+    ensures { Lanes 9 (refused_in chosen.set (entry_at (mask_bytes chosen.count) rw.now start f.offset) bank.now) result }
 {
     if (f.width == 2) | (f.width == 4) {
-        let patterns = patterns_read(count, s, start);
+        let patterns = patterns_read(chosen.count, rw, start);
         let unlisted = |bits: u8| !has_bit(patterns, bits as usize);
         if f.width == 2 {
-            return passing_lanes::<2, _>(set, f, unlisted, bank);
+            return passing_lanes::<2, _>(chosen.set, f, unlisted, bank);
         }
-        return passing_lanes::<4, _>(set, f, unlisted, bank);
+        return passing_lanes::<4, _>(chosen.set, f, unlisted, bank);
     }
     if has_range(id) {
-        let range = range_read(count, s, start);
-        return passing_lanes::<8, _>(set, f, |bits| !in_range(range, bits), bank);
+        let range = range_read(chosen.count, rw, start);
+        return passing_lanes::<8, _>(chosen.set, f, |bits| !in_range(range, bits), bank);
     }
     0
 }

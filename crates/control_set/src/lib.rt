@@ -1,14 +1,12 @@
 // Setting: the calls on a lent bank of two staged sets and the active set.
 #![tactic(auto)]
 
-ghost use Rattle.std.specs.Prelude.{◌≡◌, ◌≤◌, length, true};
+ghost use Rattle.std.specs.Prelude.{◌≡◌, ◌≤◌, length};
 ghost use Rattle.rules.specs.declared.Call.{Call};
-ghost use Rattle.rules.specs.Load.{sized};
 ghost use Rattle.rules.specs.Layout.{bank_size};
 ghost use Rattle.rules.specs.Bank.{fresh_bank, fresh_call, bank_call};
 ghost use Rattle.rules.specs.Beside.{weight_call};
-ghost use Rattle.descriptor.specs.Find.{accepted_by};
-ghost use Rattle.control_set.specs.Store.{Storable, store_of};
+ghost use Rattle.control_set.specs.Store.{Storable, stored_by, store_of};
 ghost use Rattle.descriptor.specs.Lent.{over};
 
 mod bank; // a field of a bank
@@ -59,7 +57,7 @@ pub fn select(
     ensures after { bank.new ≡ (over bank_call desc.entry (Call.Select set lane app) bank.old).1 }
 {
     admit(desc, bank.len())?;
-    if !((set < 3) & ((1 <= lane) & (lane <= 8))) {
+    if !((set < 3) & (1..=8).contains(&lane)) {
         return Err(Refusal::Plain(10));
     }
     if set == 2 {
@@ -72,18 +70,18 @@ pub fn select(
     Ok(Answer::Yes)
 }
 
-// A call that sets a number, past 10 and 11: whether the field accepts the value, which it then takes; else it keeps its own.
-fn store(bank: &mut [u8], set: usize, f: Named, field: Field, value: i64) -> bool
+// A call that sets a number, past 10 and 11: 12 for a value that the field doesn't accept, else its bits go into the field.
+fn store(bank: &mut [u8], set: usize, f: Named, field: Field, value: i64) -> Result<Answer, Refusal>
     requires { Storable bank.old set f field.part field.lane value }
-    ensures answer { result ≡ accepted_by f value }
+    ensures answer { result ≡ stored_by f value }
     ensures after { bank.new ≡ store_of bank.old set f field.part field.lane value }
 {
-    if f.accepted.has(value) {
-        let bits = bits_of(value);
-        write_field(bank, set, f.offset, field.part, f.width, field.lane, bits);
-        return true;
+    if !f.accepted.has(value) {
+        return Err(Refusal::Plain(12));
     }
-    false
+    let bits = bits_of(value);
+    write_field(bank, set, f.offset, field.part, f.width, field.lane, bits);
+    Ok(Answer::Yes)
 }
 
 // write: stores an accepted value in a field of a staged set.
@@ -104,10 +102,7 @@ pub fn write(
     if (set == 2) | f.ro {
         return Err(Refusal::Plain(11));
     }
-    if !store(bank, set, f, field, value) {
-        return Err(Refusal::Plain(12));
-    }
-    Ok(Answer::Yes)
+    store(bank, set, f, field, value)
 }
 
 // read: answers the number of a field.
@@ -140,11 +135,7 @@ pub fn byte_write(
     if set == 2 {
         return Err(Refusal::Plain(11));
     }
-    if fields {
-        bank[byte_of(set, offset)] = value;
-        return Ok(Answer::Yes);
-    }
-    bank[byte_of(set, offset)] = 0;
+    bank[byte_of(set, offset)] = if fields { value } else { 0 };
     Ok(Answer::Yes)
 }
 
@@ -178,10 +169,7 @@ pub fn publish(
     if !f.ro {
         return Err(Refusal::Plain(11));
     }
-    if !store(bank, 2, f, field, value) {
-        return Err(Refusal::Plain(12));
-    }
-    Ok(Answer::Yes)
+    store(bank, 2, f, field, value)
 }
 
 // apply: copies the fields of the chosen lanes from a staged set to the active set, all or nothing.
@@ -189,41 +177,24 @@ pub fn apply(desc: Descriptors, bank: &mut [u8], set: usize, lanes: u8) -> Resul
     ensures answer { result ≡ (over bank_call desc.entry (Call.Apply set lanes) bank.old).0 }
     ensures after { bank.new ≡ (over bank_call desc.entry (Call.Apply set lanes) bank.old).1 }
 {
-    if !desc.limits() {
-        return Err(Refusal::Plain(9));
-    }
-    if bank.len() < BANK_SIZE {
-        return Err(Refusal::Plain(8));
-    }
-    apply_within(desc.count, desc.rw, desc.ro, bank, set, lanes)
-}
-
-// The same past 9 and 8, one function deeper (see `descriptor::cover`).
-fn apply_within(
-    count: usize,
-    rw: &[u8],
-    ro: &[u8],
-    bank: &mut [u8],
-    set: usize,
-    lanes: u8,
-) -> Result<Answer, Refusal>
-    requires { (sized count rw.now ro.now ≡ true) × (bank_size ≤ length bank.old) }
-    ensures answer { result ≡ (bank_call count rw.now ro.now (Call.Apply set lanes) bank.old).0 }
-    ensures after { bank.new ≡ (bank_call count rw.now ro.now (Call.Apply set lanes) bank.old).1 }
-{
-    let loaded = (Descriptors { count, rw, ro }).load()?;
+    let loaded = admit(desc, bank.len())?;
     if 2 < set {
         return Err(Refusal::Plain(10));
     }
     if set == 2 {
         return Err(Refusal::Plain(11));
     }
-    let chosen = Chosen { count, set, lanes };
+    let chosen = Chosen {
+        count: desc.count,
+        set,
+        lanes,
+    };
     if let Some(lane) = lowest_lane(chosen.lacking(bank)) {
         return Err(Refusal::AtLane(13, lane));
     }
+    // A byte for each of a set, and eight behind them, since a part is planned by eight bytes (no heap).
     let mut plan = [0; 264];
-    if let Some(bad) = lowest_lane(plan_all(chosen, rw, loaded.rw_count, bank, &mut plan)) {
+    if let Some(bad) = lowest_lane(plan_all(chosen, desc.rw, loaded.rw_count, bank, &mut plan)) {
         return Err(Refusal::AtLane(14, bad));
     }
     copy_planned(set, loaded.staged_length, &plan, bank);
@@ -280,5 +251,5 @@ pub fn weight(desc: Descriptors, bank: &[u8], entry: usize, lane: usize) -> Resu
         return Err(Refusal::Plain(10));
     };
     let bits = read_field(bank, 2, f.offset, 0, 8, lane);
-    Ok(Answer::Number(weight_of(step, number_of(true, bits))))
+    Ok(Answer::Number(weight_of(step, i64::from(bits.cast_signed()))))
 }

@@ -1,10 +1,10 @@
 // The host's plan, at apply: 13 and 14, each as a mask of the lanes that it holds of, and the bits that are copied.
-ghost use Rattle.std.specs.Prelude.{◌≡◌, ◌*◌, ◌^◌, ◌≤◌, ◌<◌, length};
+ghost use Rattle.std.specs.Prelude.{◌≡◌, ◌*◌, ◌^◌, ◌≤◌, ◌<◌};
 ghost use Rattle.rules.specs.Descriptor.{is_app};
 ghost use Rattle.rules.specs.Refuse.{chooses};
 ghost use Rattle.rules.specs.Bank.{app_sel_in};
 ghost use Rattle.control_set.specs.Lanes.{Lanes};
-ghost use Rattle.control_set.specs.Plan.{Asked, Served, Placed, rw_entry, Walk, lacks_by, copies_by, Wanted, has_one_of, refused_among, Cached, Laid, Parts, Planned};
+ghost use Rattle.control_set.specs.Plan.{AllBytes, Asked, Served, Placed, rw_entry, Walk, lacks_by, copies_by, Wanted, has_one_of, refused_among, Cached, Laid, Parts, Planned};
 
 use crate::bank::app_sel_at;
 use crate::judge::{Fields, refused_lanes};
@@ -30,7 +30,7 @@ pub struct Last {
 fn is_app(count: usize, app: usize) -> bool
     ensures { result ≡ is_app count app }
 {
-    (1 <= app) & (app <= count)
+    (1..=count).contains(&app)
 }
 
 impl Chosen {
@@ -71,7 +71,7 @@ impl Chosen {
         ensures { Wanted 9 self bank.now result }
     {
         let mut apps = 0;
-        for lane in 1..9 {
+        for lane in 1..=8 {
             let has = self.has(lane) as usize;
             apps = apps | (has << (self.app(lane, bank) & 15));
         }
@@ -124,7 +124,7 @@ impl Chosen {
 
 // The bits of a part in the plan, in one move of eight bytes. It has no bits past its end, and the plan none there yet.
 fn plan_part(plan: &mut [u8; 264], at: usize, bits: usize)
-    requires { (at ≤ 256) × (length plan.old ≡ 264) }
+    requires { at ≤ 256 }
     ensures { Laid 8 at bits plan.old plan.new }
 {
     plan[at..at + 8].copy_from_slice(&bits.to_le_bytes());
@@ -132,7 +132,7 @@ fn plan_part(plan: &mut [u8; 264], at: usize, bits: usize)
 
 // The same bits in every part of an entry.
 fn plan_entry(plan: &mut [u8; 264], f: Fields, bits: usize)
-    requires { (0 < f.parts) × Placed f × (bits < 2 ^ (8 * f.width)) × (length plan.old ≡ 264) × Parts 0 f bits plan.old plan.old }
+    requires { (0 < f.parts) × Placed f × (bits < 2 ^ (8 * f.width)) × Parts 0 f bits plan.old plan.old }
     ensures { Parts f.parts f bits plan.old plan.new }
 {
     for part in 0..f.parts {
@@ -142,13 +142,11 @@ fn plan_entry(plan: &mut [u8; 264], f: Fields, bits: usize)
 
 // The RW entries, one by one: the bits to be copied, in a plan that has none, and the lanes of 14.
 pub fn plan_all(chosen: Chosen, rw: &[u8], entries: usize, bank: &[u8], plan: &mut [u8; 264]) -> u8
-    requires walk { Walk chosen.count rw.now entries × Served chosen bank.now }
+    requires walk { (AllBytes rw.now → Walk chosen.count rw.now entries) × Served chosen bank.now }
     requires planned { Planned chosen 0 (rw_entry chosen.count rw.now) bank.now plan.old }
     ensures refused { Lanes 9 (refused_among chosen entries (rw_entry chosen.count rw.now) bank.now) result }
     ensures after { Planned chosen entries (rw_entry chosen.count rw.now) bank.now plan.new }
 {
-    let classes = CLASSES;
-    let shapes = SHAPES;
     let apps = chosen.wanted(bank);
     let mut spreads = [0; 9];
     let mut last = Last { apps: 0, lanes: 0 };
@@ -156,7 +154,7 @@ pub fn plan_all(chosen: Chosen, rw: &[u8], entries: usize, bank: &[u8], plan: &m
     let mut start = 0;
     let mut offset = 0;
     for _ in 0..entries {
-        let entry = entry_read(&classes, &shapes, chosen.count, rw, start, offset);
+        let entry = entry_read(&CLASSES, &SHAPES, chosen.count, rw, start, offset);
         let named = entry.named;
         let width = named.width;
         if 0 < named.parts {
@@ -167,7 +165,7 @@ pub fn plan_all(chosen: Chosen, rw: &[u8], entries: usize, bank: &[u8], plan: &m
             };
             last = chosen.lanes_of(apps, last, entry.mask, bank, &mut spreads);
             plan_entry(plan, f, spreads[width]);
-            let bad = refused_lanes(chosen.set, chosen.count, rw, start, named.id, f, bank);
+            let bad = refused_lanes(chosen, rw, start, named.id, f, bank);
             refused = refused | (last.lanes & bad);
         }
         start = entry.next;

@@ -37,17 +37,7 @@ stands_by side false = eqb (side % 2) 1
 abbrev pub late_by : ℕ → Bool → Bool → Bool
 late_by id media passed = leb 2 id && (leb id 8 && (not media && passed))
 
--- a place of a string at which an entry is decoded
-pub record Walking (table : List ℕ) (row_table : List (List ℕ)) (a : ℕ) (s : List ℕ) (at : ℕ) (c : Count) : Type 0 where
-  pub classes-is : table ≡ classes
-  pub table-is : row_table ≡ rows
-  pub mask-low : 1 ≤ a
-  pub mask-top : a ≤ 2
-  pub inside : at < length s
-  pub short : length s ≤ 120
-  pub small : Small c
-
--- the same past 16, 1 and 2, with the row of the entry's ID
+-- a place of a string past 16, 1 and 2, with the row of the entry's ID
 pub record Standing (row : List ℕ) (a : ℕ) (s : List ℕ) (at : ℕ) (c : Count) : Type 0 where
   pub row-is : row ≡ row_at (byte_at s at)
   pub mask-low : 1 ≤ a

@@ -4,15 +4,21 @@ use Rattle.rules.specs.declared.Refusal.{Refusal}
 use Rattle.rules.specs.declared.State.{State}
 use Rattle.rules.specs.declared.Refusal.TheVariants.{AtEntry as at_entry}
 use Rattle.rules.specs.Load.{into_ro, walk_of}
+use Rattle.descriptor.specs.declared.decode.Past.{Past}
 use Rattle.descriptor.specs.declared.state.Count.{Count}
 use Rattle.descriptor.specs.declared.walk.Stop.{Stop}
 use Rattle.descriptor.specs.declared.walk.Entered.{Entered}
 use Rattle.descriptor.specs.Rows.{classes, rows}
-use Rattle.descriptor.specs.Counts.{count_of, Small}
+use Rattle.descriptor.specs.Counts.{count_of, refuses, Small}
 
 -- a refusal of a string alone, with so many entries before the string
 abbrev pub refusal_at : Stop → ℕ → Refusal
 refusal_at stop before = at_entry stop.number (before + stop.entries)
+
+-- past an entry its counts, or its refusal with the number of its entry in the string
+abbrev pub stopped_of : Result Past ℕ → ℕ → Result Count Stop
+stopped_of (Ok p) k = Ok p.counts
+stopped_of (Err n) k = refuses n k
 
 -- past the RW string
 abbrev pub past_rw : Result State Refusal → Result State Refusal
@@ -37,11 +43,3 @@ entered_by a rw st = entered_of (to_ro a rw st)
 abbrev pub SmallEntered : Result Entered Refusal → Type 0
 SmallEntered (Ok e) = (e.before ≤ 255) × Small e.counts
 SmallEntered (Err r) = Unit
-
--- a string that can be walked
-pub record Ready (table : List ℕ) (row_table : List (List ℕ)) (a : ℕ) (s : List ℕ) : Type 0 where
-  pub classes-is : table ≡ classes
-  pub table-is : row_table ≡ rows
-  pub mask-low : 1 ≤ a
-  pub mask-top : a ≤ 2
-  pub short : length s ≤ 120

@@ -9,10 +9,11 @@ use Rattle.descriptor.specs.declared.Range.{Range}
 use Rattle.descriptor.specs.declared.Accepted.{Accepted}
 use Rattle.descriptor.specs.declared.Accepted.TheVariants.{Within as within_range, Codes as in_codes}
 
--- by what the fields of an entry's ID hold, from the entry's byte A on: the values that they accept
+-- the numbers of a signed byte
 abbrev pub signed_range : Range
 signed_range = record { low = negsuc 127; high = pos 127 }
 
+-- by what the fields of an entry's ID hold, from the entry's byte A on: the values that they accept
 unfoldable pub accepted_at : Values → List ℕ → ℕ → Accepted
 accepted_at (up_to n) s at = within_range (record { low = pos 0; high = n })
 accepted_at every_byte s at = within_range signed_range

@@ -1,7 +1,7 @@
 // Reading: the load of both descriptor strings, where an entry stands, and an entry's own bytes.
 #![tactic(auto)]
 
-ghost use Rattle.std.specs.Prelude.{◌≡◌, ◌++◌, ◌+◌, ◌≤◌, length, drop};
+ghost use Rattle.std.specs.Prelude.{cond, ◌≡◌, ◌++◌, ◌+◌, ◌≤◌, length, drop};
 ghost use Rattle.rules.specs.Parameter.{row_of};
 ghost use Rattle.rules.specs.Descriptor.{mask_bytes};
 ghost use Rattle.rules.specs.Load.{sized, load_of, resume_of, pass_of};
@@ -17,6 +17,7 @@ ghost use Rattle.descriptor.specs.Lent.{over};
 mod table; // the table of IDs
 mod rows; // the class of an ID
 mod state; // what a walk keeps
+mod lent; // what the walk of a string reads
 mod decode; // one entry: its checks
 mod walk; // the walk of the strings
 mod reading; // one entry: what a call needs of it
@@ -24,16 +25,17 @@ mod search; // an entry by its number, and by a byte of its space
 mod text; // the map program's text
 
 use crate::decode::byte_at;
+use crate::lent::Walk;
 use crate::reading::{accepted_at, named_at, patterns_at, read_at};
 use crate::rows::class_of;
 use crate::search::{Mark, look, seek};
 use crate::state::{into_ro, start};
 use crate::table::{LEAST, ROWS, values_of};
 use crate::text::{put_refused, put_strings};
-use crate::walk::{in_limits, pass_in, scan, to_ro};
+use crate::walk::{pass_in, to_ro};
 use rules::{Answer, Field, Loaded, Passed, Refusal, State};
 
-// The rows of the table that `entry_read` is lent: a call names them once. By these it says of an entry what the table says (`read-entry`
+// The rows of the table that `entry_read` is lent. By these it says of an entry what the table says (`read-entry`
 // of proofs/EntryReads).
 pub use crate::table::{CLASSES, SHAPES};
 
@@ -59,7 +61,7 @@ impl<'a> Descriptors<'a> {
     pub fn limits(self) -> bool
         ensures { result ≡ over sized self.entry }
     {
-        in_limits(self.count, self.rw, self.ro)
+        (1 <= self.count) & ((self.count <= 15) & ((self.rw.len() <= 120) & (self.ro.len() <= 120)))
     }
 
     // The load: the check of both strings, their entry counts and lengths.
@@ -74,14 +76,22 @@ impl<'a> Descriptors<'a> {
     pub fn resume(self, st: State) -> Result<Loaded, Refusal>
         ensures { result ≡ resume_of self.entry.count st self.entry.rw.now self.entry.ro.now }
     {
-        if !in_limits(self.count, self.rw, self.ro) {
+        if !self.limits() {
             return Err(Refusal::Plain(9));
         }
         let a = mask_bytes(self.count);
-        let classes = CLASSES;
-        let rows = ROWS;
-        let last = to_ro(&classes, &rows, a, self.rw, st)?;
-        match scan(&classes, &rows, true, a, self.ro, false, last.counts) {
+        let first = Walk {
+            a,
+            s: self.rw,
+            in_ro: false,
+        };
+        let last = to_ro(first, st)?;
+        let walk = Walk {
+            a,
+            s: self.ro,
+            in_ro: true,
+        };
+        match walk.scan(false, last.counts) {
             Err(stop) => Err(stop.after(last.before)),
             Ok(end) => Ok(Loaded {
                 rw_count: last.before,
@@ -96,7 +106,7 @@ impl<'a> Descriptors<'a> {
     pub fn pass(self, st: State) -> Result<Option<Passed>, Refusal>
         ensures { result ≡ pass_of self.entry.count st self.entry.rw.now self.entry.ro.now }
     {
-        if !in_limits(self.count, self.rw, self.ro) {
+        if !self.limits() {
             return Err(Refusal::Plain(9));
         }
         let a = mask_bytes(self.count);
@@ -109,7 +119,8 @@ impl<'a> Descriptors<'a> {
         pass_in(a, self.ro, into_ro(st))
     }
 
-    // Where the entry of a number stands, or the refusal of the entry call.
+    // Where the entry of a number stands, or the refusal of the entry call. A branch for each string: where its entries begin in a set, and
+    // which numbers they have, differ too, so one branch would first choose all three.
     pub fn locate(self, entry: usize) -> Result<Located, Refusal>
         ensures { result ≡ over located_of self.entry entry }
     {
@@ -137,7 +148,7 @@ impl<'a> Descriptors<'a> {
         Err(Refusal::Plain(10))
     }
 
-    // The call beside the entry call: yes, or the refusal.
+    // The call beside the entry call: yes, or the refusal. It answers what its definition does.
     pub fn entry_check(self, entry: usize) -> Result<Answer, Refusal>
         ensures { result ≡ over entry_answer self.entry entry }
     {
@@ -153,14 +164,18 @@ impl<'a> Descriptors<'a> {
             return &self.rw[..0];
         };
         let end = found.start + found.length;
-        if found.ro {
-            return &self.ro[found.start..end];
-        }
-        &self.rw[found.start..end]
+        &self.string(found.ro)[found.start..end]
+    }
+
+    // One of the two strings.
+    fn string(self, ro: bool) -> &'a [u8]
+        ensures { result.now ≡ cond ro self.entry.ro.now self.entry.rw.now }
+    {
+        if ro { self.ro } else { self.rw }
     }
 
     // The field of an entry, part and lane, for a call that is told whether its bank is too short: 9, 8, then 16 and 1 to 7, and 10 for an
-    // entry, part or lane that doesn't exist.
+    // entry, part or lane that doesn't exist. What it says of a short bank is promised to any caller, so the flag stays.
     pub fn find(self, short: bool, field: Field) -> Result<Named, Refusal>
         ensures { result ≡ over found_of self.entry short field.entry field.part field.lane }
     {
@@ -172,56 +187,24 @@ impl<'a> Descriptors<'a> {
         }
         let place = self.locate(field.entry)?;
         let a = mask_bytes(self.count);
-        let classes = CLASSES;
-        let shapes = SHAPES;
-        if place.ro {
-            let f = named_at(
-                &classes,
-                &shapes,
-                true,
-                a,
-                self.ro,
-                place.start,
-                place.offset,
-            );
-            return held(f, field);
-        }
-        let f = named_at(
-            &classes,
-            &shapes,
-            false,
-            a,
-            self.rw,
-            place.start,
-            place.offset,
-        );
+        let mark = Mark {
+            at: place.start,
+            sum: place.offset,
+        };
+        let f = named_at(place.ro, a, self.string(place.ro), mark);
         held(f, field)
     }
 
     // The first entry whose space covers a byte, if there is one, once the load has accepted the strings: those of the RW string are looked at,
-    // then those of the RO string, and none past it.
+    // then those of the RO string, and none past it (one search goes on where the other ends).
     pub fn cover(self, offset: usize) -> Result<Option<Covered>, Refusal>
-        ensures { result ≡ over cover_of self.entry offset }
-    {
-        if !self.limits() {
-            return Err(Refusal::Plain(9));
-        }
-        self.cover_within(offset)
-    }
-
-    // The same without that look at the lengths. With it the strings are handed on from registers, not by a wide copy of what was
-    // just stored, which the processor waits for.
-    fn cover_within(self, offset: usize) -> Result<Option<Covered>, Refusal>
         ensures { result ≡ over cover_of self.entry offset }
     {
         let loaded = self.load()?;
         let a = mask_bytes(self.count);
-        let classes = CLASSES;
-        let shapes = SHAPES;
         let mut looked = 0;
         if let Some(first) = look(a, self.rw, 0, loaded.rw_count, offset, &mut looked) {
-            let mark = first.mark;
-            let f = named_at(&classes, &shapes, false, a, self.rw, mark.at, mark.sum);
+            let f = named_at(false, a, self.rw, first.mark);
             return Ok(Some(Covered {
                 number: first.number,
                 offset: f.offset,
@@ -233,8 +216,7 @@ impl<'a> Descriptors<'a> {
         }
         let before = loaded.staged_length;
         if let Some(last) = look(a, self.ro, before, loaded.ro_count, offset, &mut looked) {
-            let mark = last.mark;
-            let f = named_at(&classes, &shapes, true, a, self.ro, mark.at, mark.sum);
+            let f = named_at(true, a, self.ro, last.mark);
             return Ok(Some(Covered {
                 number: loaded.rw_count + last.number,
                 offset: f.offset,
@@ -330,7 +312,8 @@ pub struct Read {
     pub end: usize,
 }
 
-// The RW entry at a place, with an offset, by any rows lent, whether or not the strings load; nothing where no entry can stand.
+// The RW entry at a place, with an offset, by any rows lent, whether or not the strings load; nothing where no entry can stand:
+// it can't fail, and is promised of any rows and place, so what there is none of is 0.
 pub fn entry_read(
     classes: &[u8; 19],
     shapes: &[[u8; 2]; 11],
@@ -373,7 +356,8 @@ pub fn entry_read(
     }
 }
 
-// The accepted patterns of the entry at a place, a bit for each, if its fields have 2 or 4 bits a lane; none of another, and past byte 120.
+// The accepted patterns of the entry at a place, a bit for each, if its fields have 2 or 4 bits a lane; none of another, and past
+// byte 120 (it can't fail either).
 pub fn patterns_read(count: usize, s: &[u8], start: usize) -> usize
     ensures { result ≡ patterns_by count s.now start }
 {
@@ -402,7 +386,7 @@ pub fn range_read(count: usize, s: &[u8], start: usize) -> Range
 }
 
 // The entry whose space covers a byte of a set: its number, where its fields lie, the number of entries looked at, and the string that
-// it stands in (last: with the flag first the compiler builds the answer twice).
+// it stands in.
 #[derive(Clone, Copy)]
 pub struct Covered {
     pub number: usize,
@@ -413,7 +397,7 @@ pub struct Covered {
     pub ro: bool,
 }
 
-// What the map program prints for an input, written from the beginning of a buffer, with its length.
+// What the map program prints for an input, written from the beginning of a buffer that is lent (no heap), with its length.
 pub fn map_text(input: &[u8], out: &mut [u8; 1024]) -> usize
     ensures size { result ≡ length (map_output input.now) }
     ensures room { result ≤ 1024 }
@@ -426,17 +410,20 @@ pub fn map_text(input: &[u8], out: &mut [u8; 1024]) -> usize
         return put_refused(out, Refusal::Plain(9));
     }
     let count = input[0] as usize;
-    put_strings(count, &input[2..rw_end], &input[ro_start..], out)
+    let desc = Descriptors {
+        count,
+        rw: &input[2..rw_end],
+        ro: &input[ro_start..],
+    };
+    put_strings(desc, out)
 }
 
 // The least Length of an ID, A included.
 pub fn least_length(count: usize, id: u8) -> usize
     ensures { result ≡ (row_of id).least + mask_bytes count }
 {
-    let classes = CLASSES;
-    let rows = ROWS;
-    let class = class_of(&classes, id);
-    (rows[class][LEAST] as usize) + mask_bytes(count)
+    let class = class_of(id);
+    (ROWS[class][LEAST] as usize) + mask_bytes(count)
 }
 
 // A, the bytes of an application mask.

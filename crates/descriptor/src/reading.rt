@@ -2,7 +2,6 @@
 ghost use Rattle.std.specs.Prelude.{◌≡◌, ◌≤◌, ◌<◌};
 ghost use Rattle.rules.specs.Descriptor.{byte_at, high_first, entry_at};
 ghost use Rattle.rules.specs.Accept.{signed_byte};
-ghost use Rattle.descriptor.specs.Rows.{Shapes};
 ghost use Rattle.descriptor.specs.Wide.{accepted_at, step_at};
 ghost use Rattle.descriptor.specs.Find.{named_of};
 ghost use Rattle.descriptor.specs.Marks.{OnEntry};
@@ -11,7 +10,7 @@ ghost use Rattle.descriptor.specs.Reading.{shape_by, shaped, read_of, patterns_o
 use crate::decode::byte_at;
 use crate::rows::{class_in, class_of};
 use crate::search::{Mark, past};
-use crate::table::{PARTS, Values, WIDTH, values_of};
+use crate::table::{PARTS, SHAPES, Values, WIDTH, values_of};
 use crate::{Accepted, Named, Range, Read};
 
 // The numbers of a signed byte.
@@ -62,7 +61,7 @@ pub fn accepted_at(values: Values, s: &[u8], from: usize) -> Accepted
     }
 }
 
-// The step beside them.
+// The step of a field that has one, after what it accepts.
 #[tactic(auto, unfolding(crate::specs::Wide::step_at))]
 fn step_at(values: Values, s: &[u8], from: usize) -> Option<usize>
     requires { from ≤ 500 }
@@ -75,24 +74,16 @@ fn step_at(values: Values, s: &[u8], from: usize) -> Option<usize>
 }
 
 // What a call needs of the entry at a place of a string, by its ID and the shape of its fields.
-pub fn named_by(
-    shape: [u8; 2],
-    id: u8,
-    in_ro: bool,
-    a: usize,
-    s: &[u8],
-    start: usize,
-    offset: usize,
-) -> Named
-    requires { (id ≡ byte_at s.now start) × (a ≤ 2) × (start ≤ 120) }
-    ensures { result ≡ shaped shape (named_of in_ro (entry_at a s.now start offset)) }
+pub fn named_by(shape: [u8; 2], id: u8, in_ro: bool, a: usize, s: &[u8], mark: Mark) -> Named
+    requires { (id ≡ byte_at s.now mark.at) × (a ≤ 2) × (mark.at ≤ 120) }
+    ensures { result ≡ shaped shape (named_of in_ro (entry_at a s.now mark.at mark.sum)) }
 {
     let values = values_of(id);
-    let from = start + a;
+    let from = mark.at + a;
     Named {
         ro: in_ro,
         id: id as usize,
-        offset,
+        offset: mark.sum,
         parts: shape[PARTS] as usize,
         width: shape[WIDTH] as usize,
         signed: values.are_signed(),
@@ -101,23 +92,13 @@ pub fn named_by(
     }
 }
 
-// The same by the rows, which are lent. It is small enough to be inlined for both strings.
-pub fn named_at(
-    classes: &[u8; 19],
-    shapes: &[[u8; 2]; 11],
-    in_ro: bool,
-    a: usize,
-    s: &[u8],
-    start: usize,
-    offset: usize,
-) -> Named
-    requires shapes { Shapes classes.now shapes.now }
-    requires a_bound { (a ≤ 2) × (start ≤ 120) }
-    ensures { result ≡ named_of in_ro (entry_at a s.now start offset) }
+// The same by the table's own rows.
+pub fn named_at(in_ro: bool, a: usize, s: &[u8], mark: Mark) -> Named
+    requires { (a ≤ 2) × (mark.at ≤ 120) }
+    ensures { result ≡ named_of in_ro (entry_at a s.now mark.at mark.sum) }
 {
-    let id = byte_at(s, start);
-    let shape = shapes[class_of(classes, id)];
-    named_by(shape, id, in_ro, a, s, start, offset)
+    let id = byte_at(s, mark.at);
+    named_by(SHAPES[class_of(id)], id, in_ro, a, s, mark)
 }
 
 // The shape of an ID's fields by any rows lent; a class that has no row has no fields.
@@ -126,10 +107,7 @@ fn shape_in(classes: &[u8; 19], shapes: &[[u8; 2]; 11], id: u8) -> [u8; 2]
     ensures { result ≡ shape_by classes.now shapes.now id }
 {
     let class = class_in(classes, id) as usize;
-    if class < 11 {
-        return shapes[class];
-    }
-    [0, 0]
+    shapes.get(class).copied().unwrap_or([0, 0])
 }
 
 // An application mask of a bytes.
@@ -150,7 +128,7 @@ pub fn read_at(classes: &[u8; 19], shapes: &[[u8; 2]; 11], a: usize, s: &[u8], m
 {
     let at = mark.at;
     let id = s[at];
-    let named = named_by(shape_in(classes, shapes, id), id, false, a, s, at, mark.sum);
+    let named = named_by(shape_in(classes, shapes, id), id, false, a, s, mark);
     let after = past(a, s, mark);
     Read {
         mask: mask_at(a, s, at + 2),

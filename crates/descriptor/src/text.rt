@@ -6,12 +6,11 @@ ghost use Rattle.rules.specs.Descriptor.{entry_at, entry_limit};
 ghost use Rattle.rules.specs.Load.{entry_number, load_of, entries_of};
 ghost use Rattle.rules.specs.Demands.{Accepted};
 ghost use Rattle.rules.specs.MapProgram.{decimal, line, end_line, refused_line, map_text};
-ghost use Rattle.descriptor.specs.Walks.{Ready};
+ghost use Rattle.descriptor.specs.Lent.{over};
 ghost use Rattle.descriptor.specs.Text.{Adds, Printed, entry_line, Printable, Listing};
 
-use crate::decode::decode;
-use crate::state::{count_of, counting, entry_number, into_ro, start};
-use crate::table::{CLASSES, ROWS};
+use crate::lent::Walk;
+use crate::state::{Count, entry_number, into_ro, start};
 use crate::{Descriptors, mask_bytes};
 use rules::{Refusal, State};
 
@@ -98,29 +97,24 @@ impl Text<'_> {
         self.line(&[id, st.sum as usize, memory])
     }
 
-    // A line for each entry of a string, up to its end or an entry that fails a check; the state there.
-    fn entries(
-        &mut self,
-        classes: &[u8; 19],
-        rows: &[[u8; 4]; 11],
-        a: usize,
-        s: &[u8],
-        begin: State,
-    ) -> State
-        requires ready { Ready classes.now rows.now a s.now }
+    // A line for each entry of a string, up to its end or an entry that fails a check; the state there. A walk beside `scan`, which has to
+    // stay as small as it is (see there).
+    fn entries(&mut self, walk: Walk, begin: State) -> State
         requires before_le_entry_limit { (begin.before ≤ entry_limit) × (begin.sum ≤ 256) }
-        requires room { self.old.length + 4 * length s.now ≤ 1024 }
-        ensures { Listing a s.now begin self.old self.new result }
+        requires room { self.old.length + 4 * length walk.s.now ≤ 1024 }
+        requires in_ro { walk.in_ro ≡ begin.ro }
+        ensures { Listing walk.entry.a walk.entry.s.now begin self.old self.new result }
     {
+        let s = walk.s;
         let mut from = 0;
         let mut st = begin;
         while from < s.len() {
-            let Ok(past) = decode(classes, rows, st.ro, a, s, from, count_of(st)) else {
+            let Ok(past) = walk.decode(from, Count::from(st)) else {
                 return st;
             };
-            self.entry(a, s, from, st);
+            self.entry(walk.a, s, from, st);
             from = past.at; // behind the entry, by its Length
-            st = counting(st, past.counts);
+            st = past.counts.within(st);
         }
         st
     }
@@ -159,27 +153,35 @@ pub fn put_refused(out: &mut [u8; 1024], r: Refusal) -> usize
 }
 
 // The map of strings that load: the heading, a line for each entry, RW first, and the end.
-fn put_map(count: usize, rw: &[u8], ro: &[u8], out: &mut [u8; 1024]) -> usize
-    requires { Accepted count rw.now ro.now }
-    ensures { Printed (map_text (load_of count rw.now ro.now) (entries_of count rw.now ro.now)) out.old result out.new }
+fn put_map(desc: Descriptors, out: &mut [u8; 1024]) -> usize
+    requires { over Accepted desc }
+    ensures { Printed (map_text (over load_of desc.entry) (over entries_of desc.entry)) out.old result out.new }
 {
-    let classes = CLASSES;
-    let rows = ROWS;
-    let a = mask_bytes(count);
+    let a = mask_bytes(desc.count);
     let mut text = Text { out, length: 0 };
     text.push_text(b"entry id offset length\n");
-    let m = text.entries(&classes, &rows, a, rw, start());
-    let e = text.entries(&classes, &rows, a, ro, into_ro(m));
+    let rw = Walk {
+        a,
+        s: desc.rw,
+        in_ro: false,
+    };
+    let m = text.entries(rw, start());
+    let ro = Walk {
+        a,
+        s: desc.ro,
+        in_ro: true,
+    };
+    let e = text.entries(ro, into_ro(m));
     text.end(m.sum as usize, e.sum as usize);
     text.length
 }
 
 // The map of both strings, or their refusal.
-pub fn put_strings(count: usize, rw: &[u8], ro: &[u8], out: &mut [u8; 1024]) -> usize
-    ensures { Printed (map_text (load_of count rw.now ro.now) (entries_of count rw.now ro.now)) out.old result out.new }
+pub fn put_strings(desc: Descriptors, out: &mut [u8; 1024]) -> usize
+    ensures { Printed (map_text (over load_of desc.entry) (over entries_of desc.entry)) out.old result out.new }
 {
-    match (Descriptors { count, rw, ro }).load() {
+    match desc.load() {
         Err(r) => put_refused(out, r),
-        Ok(_) => put_map(count, rw, ro, out),
+        Ok(_) => put_map(desc, out),
     }
 }

@@ -1,15 +1,15 @@
 // The walk of the strings, entry by entry, and what the load tests before it.
-ghost use Rattle.std.specs.Prelude.{◌≡◌, ◌≤◌, length};
-ghost use Rattle.rules.specs.Load.{sized, pass_in};
+ghost use Rattle.std.specs.Prelude.{◌≡◌, ◌≤◌, length, false};
+ghost use Rattle.rules.specs.Load.{pass_in};
 ghost use Rattle.descriptor.specs.Counts.{alone, counted_of, walk_alone, Small, SmallEnd};
-ghost use Rattle.descriptor.specs.Walks.{refusal_at, entered_by, SmallEntered, Ready};
+ghost use Rattle.descriptor.specs.Walks.{stopped_of, refusal_at, entered_by, SmallEntered};
 
-use crate::decode::decode;
-use crate::state::{Count, count_of, counting};
-use crate::table::{CLASSES, ROWS};
+use crate::decode::Past;
+use crate::lent::Walk;
+use crate::state::Count;
 use rules::{Passed, Refusal, State};
 
-// An entry that fails a check: the check's number, and how many entries of its string stand before it.
+// An entry that fails a check: the check's number, its name in document 01, and how many entries of its string stand before it.
 #[derive(Clone, Copy)]
 pub struct Stop {
     pub number: usize,
@@ -26,41 +26,40 @@ impl Stop {
     }
 }
 
-// The walk of a string from its beginning on, or of its first entry alone: the counts at its end.
-pub fn scan(
-    classes: &[u8; 19],
-    rows: &[[u8; 4]; 11],
-    in_ro: bool,
-    a: usize,
-    s: &[u8],
-    one: bool,
-    begin: Count,
-) -> Result<Count, Stop>
-    requires ready { Ready classes.now rows.now a s.now }
-    requires small_2 { Small begin }
-    ensures answer { result ≡ counted_of (walk_alone one a s.now (alone in_ro begin)) }
-    ensures small { SmallEnd result }
+// A refusal leaves with its entry's place among those of the string.
+fn stopped(decoded: Result<Past, usize>, entries: usize) -> Result<Count, Stop>
+    ensures { result ≡ stopped_of decoded entries }
 {
-    let mut at = 0;
-    let mut c = begin;
-    while at < s.len() {
-        match decode(classes, rows, in_ro, a, s, at, c) {
-            Err(number) => {
-                return Err(Stop {
-                    number,
-                    entries: c.entries,
-                });
-            }
-            Ok(past) => {
-                if one {
-                    return Ok(past.counts);
-                }
-                at = past.at;
-                c = past.counts;
-            }
-        }
+    match decoded {
+        Ok(past) => Ok(past.counts),
+        Err(number) => Err(Stop { number, entries }),
     }
-    Ok(c)
+}
+
+impl Walk<'_> {
+    // The walk of the string from its beginning on, or of its first entry alone: the counts at its end. `pass_in` asks for the first entry
+    // here, since the compiler leaves `decode` a call where it has a second caller (the load then takes 2.7 times as long).
+    pub fn scan(self, one: bool, begin: Count) -> Result<Count, Stop>
+        requires { Small begin }
+        ensures answer { result ≡ counted_of (walk_alone one self.entry.a self.entry.s.now (alone self.entry.in_ro begin)) }
+        ensures small { SmallEnd result }
+    {
+        let mut at = 0;
+        let mut c = begin;
+        // By each entry's Length, and out of it at a refusal: no range to go over.
+        while at < self.s.len() {
+            let decoded = self.decode(at, c);
+            let Ok(past) = decoded else {
+                return stopped(decoded, c.entries);
+            };
+            if one {
+                return Ok(past.counts);
+            }
+            at = past.at;
+            c = past.counts;
+        }
+        Ok(c)
+    }
 }
 
 // Where the RO string begins or goes on: how many entries stand before it, the staged length, and the counts.
@@ -72,25 +71,19 @@ pub struct Entered {
 }
 
 // The walk up to the RO string.
-pub fn to_ro(
-    classes: &[u8; 19],
-    rows: &[[u8; 4]; 11],
-    a: usize,
-    rw: &[u8],
-    begin: State,
-) -> Result<Entered, Refusal>
-    requires { Ready classes.now rows.now a rw.now }
-    ensures answer { result ≡ entered_by a rw.now begin }
+pub fn to_ro(walk: Walk, begin: State) -> Result<Entered, Refusal>
+    requires { walk.in_ro ≡ false }
+    ensures answer { result ≡ entered_by walk.entry.a walk.entry.s.now begin }
     ensures small { SmallEntered result }
 {
     if begin.ro {
         return Ok(Entered {
             before: begin.before as usize,
             staged: begin.staged as usize,
-            counts: count_of(begin),
+            counts: Count::from(begin),
         });
     }
-    match scan(classes, rows, false, a, rw, false, count_of(begin)) {
+    match walk.scan(false, Count::from(begin)) {
         Err(stop) => Err(stop.after(begin.before as usize)),
         Ok(c) => Ok(Entered {
             before: c.entries,
@@ -112,20 +105,12 @@ pub fn pass_in(a: usize, s: &[u8], st: State) -> Result<Option<Passed>, Refusal>
     if s.len() == 0 {
         return Ok(None);
     }
-    let classes = CLASSES;
-    let rows = ROWS;
-    match scan(&classes, &rows, st.ro, a, s, true, count_of(st)) {
+    let walk = Walk { a, s, in_ro: st.ro };
+    match walk.scan(true, Count::from(st)) {
         Err(stop) => Err(stop.after(st.before as usize)),
         Ok(c) => Ok(Some(Passed {
-            state: counting(st, c),
+            state: c.within(st),
             length: s[1] as usize,
         })),
     }
-}
-
-// 9: the count is 1 to 15 and no string is over 120.
-pub fn in_limits(count: usize, rw: &[u8], ro: &[u8]) -> bool
-    ensures { result ≡ sized count rw.now ro.now }
-{
-    (1 <= count) & ((count <= 15) & ((rw.len() <= 120) & (ro.len() <= 120)))
 }

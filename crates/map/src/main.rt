@@ -27,6 +27,7 @@ fn read_full<R: Read>(reader: &mut R, input: &mut [u8]) -> io::Result<usize>
 }
 
 fn main(rt: HostRuntime) -> io::Result<()> {
+    // No heap: both buffers are arrays, and each has its size beside it.
     // The longest input that loads has 3 + 120 + 120 = 243 bytes. One of 244 or more prints `refused 9`, and so do its first 244:
     // either the sizes do not add up, or a string is over 120. So 244 bytes decide what is printed (`map-first`, proved in rules).
     let mut input = [0u8; 244];

@@ -4,7 +4,7 @@ ghost use Rattle.placement.specs.Address.{row_as, line_is, is_inside, address_is
 
 // Bytes of a page, from the first to the last.
 #[derive(Clone, Copy)]
-pub struct Range {
+pub struct Bytes {
     pub page: usize,
     pub first: usize,
     pub last: usize,
@@ -12,8 +12,8 @@ pub struct Range {
 
 #[derive(Clone, Copy)]
 pub struct Line {
-    pub main: Range,
-    pub overflow: Range,
+    pub main: Bytes,
+    pub overflow: Bytes,
 }
 
 #[derive(Clone, Copy)]
@@ -22,16 +22,17 @@ pub struct Address {
     pub byte: usize,
 }
 
-impl Range {
+impl Bytes {
     // Whether an address is one of its bytes.
-    fn has(self, page: usize, byte: usize) -> bool
-        ensures { result ≡ is_inside self page byte }
+    fn has(self, at: Address) -> bool
+        ensures { result ≡ is_inside self at.page at.byte }
     {
-        page == self.page && (self.first..=self.last).contains(&byte)
+        at.page == self.page && (self.first..=self.last).contains(&at.byte)
     }
 }
 
-// The page, its first and last byte; the overflow page, its first and last byte.
+// The page, its first and last byte; the overflow page, its first and last byte: six numbers, as a line of the table has them. As literals with
+// names each line of the table would take a dozen lines below.
 fn row(
     page: usize,
     first: usize,
@@ -43,8 +44,8 @@ fn row(
     ensures { result ≡ row_as page first last over over_first over_last }
 {
     Line {
-        main: Range { page, first, last },
-        overflow: Range {
+        main: Bytes { page, first, last },
+        overflow: Bytes {
             page: over,
             first: over_first,
             last: over_last,
@@ -87,15 +88,15 @@ pub fn address_of(set: usize, offset: usize) -> Option<Address>
 }
 
 // The offset of an address of a set, where the table gives the address to it.
-pub fn offset_of(set: usize, page: usize, byte: usize) -> Option<usize>
-    ensures { result ≡ offset_is set page byte }
+pub fn offset_of(set: usize, at: Address) -> Option<usize>
+    ensures { result ≡ offset_is set at.page at.byte }
 {
     let Line { main, overflow } = line_of(set);
-    if main.has(page, byte) {
-        return Some(byte - main.first);
+    if main.has(at) {
+        return Some(at.byte - main.first);
     }
-    if !overflow.has(page, byte) {
+    if !overflow.has(at) {
         return None;
     }
-    Some(main.last + 1 - main.first + (byte - overflow.first))
+    Some(main.last + 1 - main.first + (at.byte - overflow.first))
 }

@@ -12,7 +12,7 @@ use crate::address::{Address, address_of, offset_of};
 use descriptor::{Covered, Descriptors};
 use rules::{Field, Owned, Placed, Refusal};
 
-// A place in a set: its offset, the address of this offset, and its lowest bit.
+// A place in a set: its offset, the address of this offset (0 and 0 where it has none: see `Placed`), and its lowest bit.
 fn placed_in(set: usize, offset: usize, bit: usize) -> Placed
     ensures { Ok result ≡ placed_in set offset bit }
 {
@@ -25,7 +25,8 @@ fn placed_in(set: usize, offset: usize, bit: usize) -> Placed
     }
 }
 
-// Place: a field's offset in a set, its page and byte by Table 4-1, and its lowest bit there; refused as read is.
+// Place: a field's offset in a set, its page and byte by Table 4-1, and its lowest bit there; refused as read is. The two numbers are those of
+// `place_of` of control_set, which is private as every function is that not all arguments suit.
 pub fn place(desc: Descriptors, set: usize, field: Field) -> Result<Placed, Refusal>
     ensures { result ≡ over place_of desc.entry set field.entry field.part field.lane }
 {
@@ -42,33 +43,26 @@ pub fn place(desc: Descriptors, set: usize, field: Field) -> Result<Placed, Refu
     Ok(placed_in(set, offset, first % 8))
 }
 
-// The field that has a bit of an entry's space, counted from its offset: the lanes of all parts in a row, W bits each, 8 to a part. With the
-// number of entries looked at.
-fn field_in(
-    number: usize,
-    parts: usize,
-    width: usize,
-    looked: usize,
-    byte: usize,
-    bit: usize,
-) -> Owned
-    requires { (parts < 16) × (width < 16) × (byte ≤ 256) × (bit < 8) }
-    ensures { Ok result ≡ field_in number parts width looked byte bit }
+// The field that has a bit of the space of the entry that covers it, the byte counted from the entry's offset: the lanes of all parts in a row,
+// W bits each, 8 to a part. With the number of entries looked at.
+fn field_in(c: Covered, byte: usize, bit: usize) -> Owned
+    requires { (c.parts < 16) × (c.width < 16) × (byte ≤ 256) × (bit < 8) }
+    ensures { Ok result ≡ field_in c.number c.parts c.width c.looked byte bit }
 {
-    if !(byte < parts * width) {
+    if !(byte < c.parts * c.width) {
         return Owned {
             field: None,
-            looked,
+            looked: c.looked,
         };
     }
-    let before = (byte * 8 + bit) / width;
+    let before = (byte * 8 + bit) / c.width;
     Owned {
         field: Some(Field {
-            entry: number,
+            entry: c.number,
             part: before / 8,
             lane: before % 8 + 1,
         }),
-        looked,
+        looked: c.looked,
     }
 }
 
@@ -83,7 +77,7 @@ fn owned(covered: Option<Covered>, set: usize, offset: usize, bit: usize) -> Res
     if !((set < 3) & (!((set < 2) & c.ro) & (bit < 8))) {
         return Err(Refusal::Plain(10));
     }
-    Ok(field_in(c.number, c.parts, c.width, c.looked, offset - c.offset, bit))
+    Ok(field_in(c, offset - c.offset, bit))
 }
 
 // Owner: the field that a bit of a set belongs to, none in a gap, and the number of entries looked at.
@@ -105,7 +99,7 @@ pub fn owner_at(
 ) -> Result<Owned, Refusal>
     ensures { result ≡ over owner_at_call desc.entry set page byte bit }
 {
-    let Some(offset) = offset_of(set, page, byte) else {
+    let Some(offset) = offset_of(set, Address { page, byte }) else {
         desc.load()?;
         return Err(Refusal::Plain(10));
     };

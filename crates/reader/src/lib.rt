@@ -36,19 +36,17 @@ fn take_at(count: usize, s: &[u8], at: usize) -> Result<Option<Taken>, Refusal>
     if left == 1 {
         return Err(Refusal::Plain(1));
     }
-    let length = s[at + 1] as usize;
-    let short = length < least_length(count, s[at]);
-    let overruns = left < length;
-    if overruns {
+    let length = usize::from(s[at + 1]);
+    if left < length {
         return Err(Refusal::Plain(1));
     }
-    if short {
+    if length < least_length(count, s[at]) {
         return Err(Refusal::Plain(2));
     }
     Ok(Some(Taken { start: at, length }))
 }
 
-// A lent string and the position in it.
+// A lent string and the position in it: document 01's form of the reader, a struct with the slice and a position.
 #[derive(Drop)]
 pub struct Reader<'a> {
     pub src: &'a [u8],

@@ -13,10 +13,16 @@ pub const ACTIVE_START: usize = 512;
 
 pub const ACTIVE_END: usize = 768;
 
+// The AppSels of the staged sets 0 and 1, a byte for each of 8 lanes.
+const APP_SELS_0: usize = 768;
+
+const APP_SELS_1: usize = 776;
+
 // The most entries that a string may have.
 pub const ENTRY_LIMIT: usize = 16;
 
-// Where a set begins in a bank: the staged sets 0 and 1, and the active set.
+// Where a set begins in a bank: the staged sets 0 and 1, and the active set. A set is a number and no enum, here and in all calls: a call may
+// name any number, and 10 refuses one that names no set (document 01).
 pub fn set_start(set: usize) -> usize
     ensures { result ≡ set_start set }
 {
@@ -31,13 +37,14 @@ pub fn app_sel_start(set: usize) -> usize
     ensures { result ≡ app_sel_start set }
 {
     if set == 0 {
-        return 768;
+        return APP_SELS_0;
     }
-    776
+    APP_SELS_1
 }
 
-// A refusal: document 01's number alone (8 to 12, and all of the reader's), with the entry that it names (1 to 7, 16), or with the
-// lane (13, 14).
+// A refusal: its number alone (8 to 12, and all of the reader's), with the entry that it names (1 to 7, 16), or with the lane (13, 14). The
+// documents 01 and 02 name a refusal by its number alone, tools print the number and C gets it: an enum of names would be a second name for each,
+// with a table between.
 #[derive(Clone, Copy)]
 pub enum Refusal {
     Plain(usize),
@@ -46,7 +53,8 @@ pub enum Refusal {
 }
 
 // An entry of a descriptor string, decoded: where it starts in its string, what its bytes say, and its offset in a set.
-// `media` is PropertyFlags bit 0 of an ID of the table; `codes`, `min`, `max` (as bytes) and `step` are 0 where the ID has no such extra.
+// `media` is PropertyFlags bit 0 of an ID of the table; `codes`, `min`, `max` (as bytes) and `step` are 0 where the ID has no such extra: the
+// definitions speak of this type and no code makes one, so an Option would guard nothing.
 #[derive(Clone, Copy)]
 pub struct Entry {
     pub id: usize,
@@ -64,6 +72,7 @@ pub struct Entry {
 
 // What a walk of the strings keeps after an entry: whether it is in the RO string, whether a media-side table entry has been passed, how many
 // entries of this string have been, how many stand before this string, the sum of all MemoryLengths passed and, in the RO string, the staged length.
+// `ro` is a flag beside `before` and `staged`, and no enum of the two strings: C hands any state in, so each combination is a state with an answer.
 #[derive(Clone, Copy)]
 pub struct State {
     pub ro: bool,
@@ -132,15 +141,16 @@ pub enum Call {
     },
 }
 
-// The answer of these calls and of weight. "An accepted call without another answer says yes."
+// The answer of these calls, of weight, and of the call beside the entry call (which hands back bytes alone): yes, where that one hands back an
+// entry's bytes. "An accepted call without another answer says yes."
 #[derive(Clone, Copy)]
 pub enum Answer {
     Yes,
     Number(i64),
 }
 
-// Where a field lies: its offset in the set, the page and byte that Table 4-1 of OIF-CMIS-VCS-01.1 gives this offset (0 and 0 where it
-// gives none), and its lowest bit.
+// Where a field lies: its offset in the set, the page and byte that Table 4-1 of OIF-CMIS-VCS-01.1 gives this offset, and its lowest
+// bit. Page and byte are 0 where the table gives none, and no Option holds them: the definition says so and tools print them (a rule of the project).
 #[derive(Clone, Copy)]
 pub struct Placed {
     pub offset: usize,

@@ -1,4 +1,6 @@
 // Flat answers, a number for each case of an answer, as C has them; and which call a flat call is.
+// Each flat struct has the members of its struct in include/vcs.h, in that order. For C, numbers stand there for what is a variant, an
+// Option or a bool elsewhere: `refusal` (0: accepted), `ended` and `end`, `gap`, `string` and `media`, and the `kind` of a call.
 ghost use Rattle.std.specs.Prelude.{◌≡◌};
 ghost use Rattle.vcs.specs.Flat.{reason_of, flat_loaded, state_of, flat_state, flat_passed, flat_entry, flat_placed, flat_owned, flat_answer, flat_taken, call_of};
 
@@ -6,7 +8,7 @@ use descriptor::Located;
 use reader::Taking;
 use rules::{Answer, Call, Loaded, Owned, Passed, Placed, Refusal, State};
 
-// A refusal: its number, and the entry (1 to 7, 16) or the lane (13, 14) that it names, else 0. Number 0: accepted.
+// A refusal: its number, and the entry (1 to 7, 16) or the lane (13, 14) that it names, else 0.
 #[derive(Clone, Copy)]
 pub struct Reason {
     pub number: usize,
@@ -133,6 +135,19 @@ impl From<Refusal> for Reason {
     }
 }
 
+// The flat answer of a refusal: its number and what it names, and all other members 0. A macro, since six structs of C have these two
+// members: a generic function needs of each an `impl From<Refusal>`, or one of a trait, which is longer than the arm it saves.
+macro_rules! refused {
+    ($flat:ident, $refusal:expr) => {{
+        let why = Reason::from($refusal);
+        $flat {
+            refusal: why.number,
+            at: why.at,
+            ..$flat::default()
+        }
+    }};
+}
+
 impl From<Result<Loaded, Refusal>> for FlatLoaded {
     ghost from_gives = { λ x y. y ≡ flat_loaded x };
 
@@ -145,14 +160,7 @@ impl From<Result<Loaded, Refusal>> for FlatLoaded {
                 active: l.active_length,
                 ..FlatLoaded::default()
             },
-            Err(r) => {
-                let why = Reason::from(r);
-                FlatLoaded {
-                    refusal: why.number,
-                    at: why.at,
-                    ..FlatLoaded::default()
-                }
-            }
+            Err(r) => refused!(FlatLoaded, r),
         }
     }
 }
@@ -202,14 +210,7 @@ impl From<Result<Option<Passed>, Refusal>> for FlatPassed {
                 ended: 1,
                 ..FlatPassed::default()
             },
-            Err(r) => {
-                let why = Reason::from(r);
-                FlatPassed {
-                    refusal: why.number,
-                    at: why.at,
-                    ..FlatPassed::default()
-                }
-            }
+            Err(r) => refused!(FlatPassed, r),
         }
     }
 }
@@ -226,14 +227,7 @@ impl From<Result<Located, Refusal>> for FlatEntry {
                 offset: found.offset,
                 ..FlatEntry::default()
             },
-            Err(r) => {
-                let why = Reason::from(r);
-                FlatEntry {
-                    refusal: why.number,
-                    at: why.at,
-                    ..FlatEntry::default()
-                }
-            }
+            Err(r) => refused!(FlatEntry, r),
         }
     }
 }
@@ -250,14 +244,7 @@ impl From<Result<Placed, Refusal>> for FlatPlaced {
                 bit: placed.bit,
                 ..FlatPlaced::default()
             },
-            Err(r) => {
-                let why = Reason::from(r);
-                FlatPlaced {
-                    refusal: why.number,
-                    at: why.at,
-                    ..FlatPlaced::default()
-                }
-            }
+            Err(r) => refused!(FlatPlaced, r),
         }
     }
 }
@@ -281,14 +268,7 @@ impl From<Result<Owned, Refusal>> for FlatOwned {
                     ..FlatOwned::default()
                 },
             },
-            Err(refusal) => {
-                let why = Reason::from(refusal);
-                FlatOwned {
-                    refusal: why.number,
-                    at: why.at,
-                    ..FlatOwned::default()
-                }
-            }
+            Err(r) => refused!(FlatOwned, r),
         }
     }
 }
@@ -303,14 +283,7 @@ impl From<Result<Answer, Refusal>> for FlatAnswer {
                 ..FlatAnswer::default()
             },
             Ok(Answer::Yes) => FlatAnswer::default(),
-            Err(r) => {
-                let why = Reason::from(r);
-                FlatAnswer {
-                    refusal: why.number,
-                    at: why.at,
-                    ..FlatAnswer::default()
-                }
-            }
+            Err(r) => refused!(FlatAnswer, r),
         }
     }
 }
@@ -341,7 +314,8 @@ impl From<Taking> for FlatTaken {
     }
 }
 
-// A call by its kind. A kind above 6 is apply on set 3: refused with 10, after all that comes before 10.
+// A call by its kind. From and not TryFrom, as the C interface has it: a kind above 6 is apply on set 3, a set that doesn't exist, and
+// so is refused with 10, after 9, 8, 16 and 1 to 7, which only the call itself finds.
 impl From<FlatCall> for Call {
     ghost from_gives = { λ x y. y ≡ call_of x };
 

@@ -1,4 +1,5 @@
 // The calls with flat answers, for C: `vcs_c` exports each (include/vcs.h).
+// Each takes the count, both strings and the numbers of a field one by one, as C has them; the crates below take them as structs.
 #![tactic(auto)]
 
 ghost use Rattle.std.specs.Prelude.{◌≡◌};

@@ -1,4 +1,5 @@
 // The C interface (include/vcs.h): an export of each function of `vcs`, with its clauses.
+// No crate can use a static library, so each export is a function beside that of `vcs`, a library.
 #![tactic(auto)]
 
 ghost use Rattle.std.specs.Prelude.{◌≡◌};

@@ -1,22 +1,72 @@
--- `apply` meets its contract: 9 and 8, then the rest.
-use Rattle.std.proofs.Common.{length, refl, sym, arith}
+-- `apply` meets its contract: each of its tests is the rules' test of that number, and its copy is theirs.
+use Rattle.std.proofs.Common.{ℕ, ◌<◌, get_or, refl, arith}
+use borrow.Author.Tests.{lt-ltb, le-ltb, eq-eqb, ne_eqb}
 use Rattle.rules.specs.declared.Call.{Call}
-use Rattle.rules.proofs.Bank.Places.{size-is}
-use Rattle.rules.proofs.Refusals.CallOrder.{bank-order-9, bank-order-8}
+use Rattle.rules.proofs.Basics.Results.{handed-on}
 use Rattle.control_set.proofs.Outcomes.{answered, call-shut}
+use Rattle.control_set.proofs.Plans.{planned-none, no-bits}
+use Rattle.control_set.proofs.Applies.{walk, staged-most, staged-none, apply-asked, apply-10, apply-11, apply-13, apply-clear, apply-14, apply-done, apply-copied}
 use Rattle.control_set.proofs.apply.Goals as goal
+use Rattle.control_set.proofs.apply.Goals.{In_ok-loaded}
 
-pub returns-then-not-limits : goal.returns-then-not-limits
-returns-then-not-limits c =
+-- the bank before the copy
+bytes : (c : In_ok-loaded) → (j : ℕ) → get_or c.args.bank.now j 0 < 256
+bytes c j = (c.type_inv.bank j).fits
+
+pub returns-then-set-gt2 : goal.returns-then-set-gt2
+returns-then-set-gt2 c =
     let g = c.args in
-    answered (call-shut g.desc.count g.desc.rw.now g.desc.ro.now (Call.Apply g.set g.lanes) g.bank.now _
-    (λ rest. bank-order-9 g.desc.count g.desc.rw.now g.desc.ro.now rest (length g.bank.now) (sym c.if-not-limits.ensures))) refl refl
+    answered (apply-10 g.desc.count g.desc.rw.now g.desc.ro.now _ _ _ _ c.in_ok-loaded.ensures.loads g.set g.lanes g.bank.now c.in_ok-loaded.ensures.size-is (le-ltb g.set 3 (omega arith))) refl refl
 
-pub returns-then-bank-lt-BANK_SIZE : goal.returns-then-bank-lt-BANK_SIZE
-returns-then-bank-lt-BANK_SIZE c =
+pub returns-then-set-eq2 : goal.returns-then-set-eq2
+returns-then-set-eq2 c =
     let g = c.args in
-    answered (call-shut g.desc.count g.desc.rw.now g.desc.ro.now (Call.Apply g.set g.lanes) g.bank.now _
-    (λ rest. bank-order-8 g.desc.count g.desc.rw.now g.desc.ro.now rest (length g.bank.now) (sym c.if-not-limits.ensures) (omega (arith, size-is)))) refl refl
+    answered (apply-11 g.desc.count g.desc.rw.now g.desc.ro.now _ _ _ _ c.in_ok-loaded.ensures.loads g.set g.lanes g.bank.now c.in_ok-loaded.ensures.size-is (lt-ltb g.set 3 (omega arith)) (eq-eqb _ 2 c.if-set-eq2.true)) refl refl
 
-pub apply_within-requires : goal.apply_within-requires
-apply_within-requires c = (sym c.if-not-limits.ensures, omega (arith, size-is))
+pub returns-in-Some : goal.returns-in-Some
+returns-in-Some c =
+    let g = c.args in
+    answered (apply-13 g.desc.count g.desc.rw.now g.desc.ro.now _ _ _ _ c.in_ok-loaded.ensures.loads g.set g.lanes g.bank.now c.in_ok-loaded.ensures.size-is (lt-ltb g.set 3 (omega arith)) (ne_eqb _ 2 c.if-set-eq2.false) c.lacking.result c.lacking.ensures c.lowest_lane.ensures c.in-Some.lane c.in-Some.is) refl refl
+
+pub lacking-requires : goal.lacking-requires
+lacking-requires c =
+    let g = c.args in
+    apply-asked g.desc.count g.desc.rw.now g.desc.ro.now _ _ _ _ c.in_ok-loaded.ensures.loads g.set g.lanes g.bank.now c.in_ok-loaded.ensures.size-is (omega arith)
+
+pub plan_all-requires : goal.plan_all-requires
+plan_all-requires c =
+    let g = c.args in
+    record {
+      walk = (
+        walk g.desc.count g.desc.rw.now g.desc.ro.now _ _ _ _ c.in_ok-loaded.ensures.loads,
+        record {
+          asked = apply-asked g.desc.count g.desc.rw.now g.desc.ro.now _ _ _ _ c.in_ok-loaded.ensures.loads g.set g.lanes g.bank.now c.in_ok-loaded.ensures.size-is (omega arith);
+          apps = apply-clear g.desc.count g.desc.rw.now g.desc.ro.now _ _ _ _ c.in_ok-loaded.ensures.loads g.set g.lanes g.bank.now c.in_ok-loaded.ensures.size-is (lt-ltb g.set 3 (omega arith)) (ne_eqb _ 2 c.if-set-eq2.false) c.lacking.result c.lacking.ensures c.lowest_lane.ensures c.in_default.is;
+        },
+      );
+      planned = planned-none _ _ _ _ refl (no-bits 264);
+    }
+
+pub copy_planned-requires : goal.copy_planned-requires
+copy_planned-requires c =
+    let g = c.args in
+    record {
+      set = (omega arith, staged-most g.desc.count g.desc.rw.now g.desc.ro.now _ _ _ _ c.in_ok-loaded.ensures.loads, c.in_ok-loaded.ensures.size-is);
+      none = staged-none g.desc.count g.desc.rw.now g.desc.ro.now _ _ _ _ c.in_ok-loaded.ensures.loads c.plan_all.ensures.after;
+    }
+
+pub returns-in-Some-lowest_lane : goal.returns-in-Some-lowest_lane
+returns-in-Some-lowest_lane c =
+    let g = c.args in
+    answered (apply-14 g.desc.count g.desc.rw.now g.desc.ro.now _ _ _ _ c.in_ok-loaded.ensures.loads g.set g.lanes g.bank.now c.in_ok-loaded.ensures.size-is (lt-ltb g.set 3 (omega arith)) (ne_eqb _ 2 c.if-set-eq2.false) c.lacking.result c.lacking.ensures c.lowest_lane.ensures c.in_default.is c.plan_all.result c.plan_all.ensures.refused c.lowest_lane-2.ensures c.in-Some-lowest_lane.bad c.in-Some-lowest_lane.is) refl refl
+
+pub returns-in_err-loaded : goal.returns-in_err-loaded
+returns-in_err-loaded c =
+    let g = c.args in
+    answered (call-shut g.desc.count g.desc.rw.now g.desc.ro.now (Call.Apply g.set g.lanes) g.bank.now _ c.in_err-loaded.ensures) (handed-on _ c.from_residual.ensures.1) refl
+
+pub returns : goal.returns
+returns c =
+    let g = c.args in
+    answered (apply-done g.desc.count g.desc.rw.now g.desc.ro.now _ _ _ _ c.in_ok-loaded.ensures.loads g.set g.lanes g.bank.now c.in_ok-loaded.ensures.size-is (lt-ltb g.set 3 (omega arith)) (ne_eqb _ 2 c.if-set-eq2.false) c.lacking.result c.lacking.ensures c.lowest_lane.ensures c.in_default.is c.plan_all.result c.plan_all.ensures.refused c.lowest_lane-2.ensures c.in_default-lowest_lane.is) refl
+    (apply-copied g.desc.count g.desc.rw.now g.desc.ro.now _ _ _ _ c.in_ok-loaded.ensures.loads g.set g.lanes g.bank.now (λ j _. bytes (goal.at.returns c).In_ok-loaded j) c.plan_all.ensures.after c.copy_planned.ensures c.in_ok-loaded.ensures.size-is)

@@ -6,6 +6,7 @@ use Rattle.rules.proofs.Basics.Results.{handed-on}
 use Rattle.control_set.proofs.ByteCalls.{byte-unreached, byte-write-away, byte-write-11, byte-write-done}
 use Rattle.control_set.proofs.Outcomes.{answered}
 use Rattle.control_set.proofs.byte_write.Goals as goal
+use Rattle.control_set.proofs.byte_write.Goals.{then-fields, else-fields}
 
 pub returns-in_err-fields : goal.returns-in_err-fields
 returns-in_err-fields c =
@@ -20,17 +21,11 @@ returns-then-set-eq2 c =
 pub byte_of-requires : goal.byte_of-requires
 byte_of-requires c = (named-has-bytes _ c.in_ok-fields.ensures.is_set, c.in_ok-fields.ensures.top)
 
-pub returns-then-fields : goal.returns-then-fields
-returns-then-fields c =
-    let g = c.args in
-    let e = byte-write-done g.desc.count g.desc.rw.now g.desc.ro.now g.bank.now g.set g.offset c.in_ok-fields.ensures g.value c.if-set-eq2.false (omega (arith, c.ranges.value)) in
-    answered (rw (c.if-fields.true, ← c.byte_of.ensures.0) at e) refl refl
-
-pub byte_of-requires-2 : goal.byte_of-requires-2
-byte_of-requires-2 c = (named-has-bytes _ c.in_ok-fields.ensures.is_set, c.in_ok-fields.ensures.top)
-
 pub returns : goal.returns
 returns c =
     let g = c.args in
     let e = byte-write-done g.desc.count g.desc.rw.now g.desc.ro.now g.bank.now g.set g.offset c.in_ok-fields.ensures g.value c.if-set-eq2.false (omega (arith, c.ranges.value)) in
-    answered (rw (c.if-fields.false, ← c.byte_of-2.ensures.0) at e) refl refl
+    elim c.if-fields.branch [
+      | then-fields w ↦ answered (rw (w.if-fields.true, ← c.byte_of.ensures.0) at e) refl (rw w.bank-is refl)
+      | else-fields w ↦ answered (rw (w.if-fields.false, ← c.byte_of.ensures.0) at e) refl (rw w.bank-is refl)
+    ]

@@ -7,13 +7,13 @@ use Rattle.descriptor.specs.Find.{accepted_by}
 use Rattle.control_set.specs.Store.{store_of}
 use Rattle.control_set.proofs.store.Goals as goal
 
-pub returns-then-has-clause-after : goal.returns-then-has-clause-after
+pub returns-then-not-has-clause-after : goal.returns-then-not-has-clause-after
 unfolding store_of
-returns-then-has-clause-after c =
-    let yes : accepted_by c.args.f c.args.value ≡ true = search rules in
-    let stored = (rw (to_z-of_z c.ranges.value) at c.bits_of-bits.ensures) ∙ (c.requires.bits yes).1 in
-    rw (yes, c.write_field.ensures, stored)
+returns-then-not-has-clause-after c = let no : accepted_by c.args.f c.args.value ≡ false = search rules in rw no
 
 pub returns-clause-after : goal.returns-clause-after
 unfolding store_of
-returns-clause-after c = let no : accepted_by c.args.f c.args.value ≡ false = search rules in rw no
+returns-clause-after c =
+    let yes : accepted_by c.args.f c.args.value ≡ true = search rules in
+    let stored = (rw (to_z-of_z c.ranges.value) at c.bits_of-bits.ensures) ∙ (c.requires.bits yes).1 in
+    rw (yes, c.write_field.ensures, stored)

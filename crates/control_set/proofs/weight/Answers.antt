@@ -1,4 +1,5 @@
 -- `weight` meets its contract: refused by the gate, or 10, or the active number of a 12h field by its step.
+use borrow.Author.Rules.{rules}
 use Rattle.std.proofs.Common.{◌≡◌, true, sym, ap, ◌∙◌, w64, to_z, of_z}
 use mir.Facts.{to_z-of_z}
 use Rattle.rules.specs.Words.{number}
@@ -7,12 +8,14 @@ use Rattle.control_set.specs.Field.{bits_at}
 use Rattle.control_set.specs.Values.{number_by}
 use Rattle.control_set.proofs.FieldCalls.{weight-unfound, weight-10, weight-spot, weight-is}
 use Rattle.control_set.proofs.weight.Goals as goal
-use Rattle.control_set.proofs.weight.Goals.{After-number_of}
+use Rattle.control_set.proofs.weight.Goals.{After-from}
 
 -- the number of its bits, as the machine hands it on
-numbered : (c : After-number_of) →
-    to_z w64 (of_z w64 c.number_of.result) ≡ number_by true (bits_at c.args.bank.now 2 c.in_ok-f.f.offset 0 8 c.args.lane)
-numbered c = to_z-of_z {w = w64} (record { sfits = c.number_of.type_inv }) ∙ c.number_of.ensures ∙ ap (number_by true) c.read_field-bits.ensures
+numbered : (c : After-from) →
+    to_z w64 (of_z w64 c.from.result) ≡ number_by true (bits_at c.args.bank.now 2 c.in_ok-f.f.offset 0 8 c.args.lane)
+numbered c =
+    let is : c.from.result ≡ number_by true c.read_field-bits.result = search rules in
+    to_z-of_z {w = w64} (record { sfits = c.from.type_inv }) ∙ is ∙ ap (number_by true) c.read_field-bits.ensures
 
 pub returns-in_err-f : goal.returns-in_err-f
 returns-in_err-f c =
@@ -32,6 +35,6 @@ read_field-bits-requires c =
 pub returns : goal.returns
 returns c =
     let g = c.args in
-    let w = rw (numbered (goal.at.returns c).After-number_of) at c.weight_of.ensures in
+    let w = rw (numbered (goal.at.returns c).After-from) at c.weight_of.ensures in
     ap number (to_z-of_z {w = w64} (record { sfits = c.weight_of.type_inv }) ∙ w)
     ∙ weight-is g.desc.count g.desc.rw.now g.desc.ro.now g.bank.now g.entry g.lane c.in_ok-f.ensures c.in-Some.step (sym c.in-Some.is)

@@ -1,5 +1,5 @@
 -- `write` meets its contract: each of its tests is the rules' test of that number.
-use Rattle.std.proofs.Common.{◌≡◌, true, false, refl, sym, ◌∙◌}
+use Rattle.std.proofs.Common.{◌≡◌, true, false, refl, ◌∙◌}
 use mir.Facts.{to_z-of_z}
 use borrow.Author.Tests.{lt-ltb, le-ltb}
 use Rattle.rules.specs.declared.Call.{Call}
@@ -56,24 +56,12 @@ store-requires c =
     let g = c.args in
     rw (to_z-of_z c.ranges.value) (storable g.desc.count g.desc.rw.now g.desc.ro.now g.bank.now c.in_ok-f.ensures (field (goal.at.store-requires c).Else-set-f) g.value)
 
-pub returns-then-not-store : goal.returns-then-not-store
-unfolding unaccepted bank_plan bank_does
-returns-then-not-store c =
-    let g = c.args in
-    let at = goal.at.returns-then-not-store c in
-    let no = rw (to_z-of_z c.ranges.value) at c.store.ensures.answer in
-    answered
-    (call-stores g.desc.count g.desc.rw.now g.desc.ro.now g.bank.now c.in_ok-f.ensures (Call.Write g.set g.field.entry g.field.part g.field.lane g.value) g.set g.value (field at.Else-set-f) (there at.Else-not-set) (may at.Else-set-f) refl refl refl)
-    (rw (sym no ∙ c.if-not-store.true) refl)
-    (rw (to_z-of_z c.ranges.value) at c.store.ensures.after)
-
 pub returns : goal.returns
 unfolding unaccepted bank_plan bank_does
 returns c =
     let g = c.args in
     let at = goal.at.returns c in
-    let yes = rw (to_z-of_z c.ranges.value) at c.store.ensures.answer in
     answered
     (call-stores g.desc.count g.desc.rw.now g.desc.ro.now g.bank.now c.in_ok-f.ensures (Call.Write g.set g.field.entry g.field.part g.field.lane g.value) g.set g.value (field at.Else-set-f) (there at.Else-not-set) (may at.Else-set-f) refl refl refl)
-    (rw (sym yes ∙ c.if-not-store.false) refl)
+    (rw (to_z-of_z c.ranges.value) at c.store.ensures.answer)
     (rw (to_z-of_z c.ranges.value) at c.store.ensures.after)

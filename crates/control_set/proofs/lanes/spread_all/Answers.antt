@@ -9,4 +9,4 @@ returns c =
     let m = c.args.lanes in
     let h = c.ranges.lanes.fits in
     rw (and_mask m 4)
-    (spreads-all (spreads-mask m h) (spreads-table 2 (table 2 4) (omega arith) tt m h) (spreads-table 4 (table 4 4) (omega arith) tt m h) (spreads-table 8 (table 8 4) (omega arith) tt m h) c.args.spreads.now c.requires)
+    (spreads-all (spreads-mask m h) (spreads-table 2 (table 2 4) (omega arith) tt m h) (spreads-table 4 (table 4 4) (omega arith) tt m h) (spreads-table 8 (table 8 4) (omega arith) tt m h) c.args.spreads.now c.told-spreads)

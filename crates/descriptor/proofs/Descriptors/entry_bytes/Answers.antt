@@ -30,18 +30,8 @@ overflow_add-end c =
     let h = (span (goal.at.overflow_add-end c).In-Ok).inside in
     ⊎_elim (λ h. omega arith) (λ h. omega arith) (either-has c.in-Ok.found.ro c.args.self.ro.now c.args.self.rw.now _ h)
 
-pub slice_bounds-result-end-then-found : goal.slice_bounds-result-end-then-found
-slice_bounds-result-end-then-found c =
-    let h = span (goal.at.slice_bounds-result-end-then-found c).In-Ok in
-    (rw c.if-found.true at h).inside
-
-pub returns-then-found : goal.returns-then-found
-returns-then-found c = let h = span (goal.at.returns-then-found c).In-Ok in cut (rw c.if-found.true at h)
-
 pub slice_bounds-result-end-2 : goal.slice_bounds-result-end-2
-slice_bounds-result-end-2 c =
-    let h = span (goal.at.slice_bounds-result-end-2 c).In-Ok in
-    (rw c.if-found.false at h).inside
+slice_bounds-result-end-2 c = let h = span (goal.at.slice_bounds-result-end-2 c).In-Ok in rw c.string.ensures h.inside
 
 pub returns : goal.returns
-returns c = let h = span (goal.at.returns c).In-Ok in cut (rw c.if-found.false at h)
+returns c = let h = span (goal.at.returns c).In-Ok in rw c.string.ensures (cut h)

@@ -24,16 +24,8 @@ returns-then-short c =
     let g = c.args in
     found-8 g.self.count g.self.rw.now g.self.ro.now g.short g.field.entry g.field.part g.field.lane (sym c.if-not-limits.ensures) c.if-short.true
 
-pub named_at-f-requires-clause-a_bound : goal.named_at-f-requires-clause-a_bound
-named_at-f-requires-clause-a_bound c = (c.mask_bytes-a.ensures.2, (reads (goal.at.named_at-f-requires-clause-a_bound c).In_ok-place).1)
-
-pub returns-then-place : goal.returns-then-place
-returns-then-place c =
-    let h = (reads (goal.at.returns-then-place c).In_ok-place).0 in
-    c.held.ensures ∙ rw (c.named_at-f.ensures, c.mask_bytes-a.ensures.0) (rw c.if-place.true at h)
-
-pub named_at-f-requires-2-clause-a_bound : goal.named_at-f-requires-2-clause-a_bound
-named_at-f-requires-2-clause-a_bound c = (c.mask_bytes-a.ensures.2, (reads (goal.at.named_at-f-requires-2-clause-a_bound c).In_ok-place).1)
+pub named_at-f-requires : goal.named_at-f-requires
+named_at-f-requires c = (c.mask_bytes-a.ensures.2, (reads (goal.at.named_at-f-requires c).In_ok-place).1)
 
 pub returns-in_err-place : goal.returns-in_err-place
 returns-in_err-place c =
@@ -42,5 +34,4 @@ returns-in_err-place c =
 
 pub returns : goal.returns
 returns c =
-    let h = (reads (goal.at.returns c).In_ok-place).0 in
-    c.held-2.ensures ∙ rw (c.named_at-f-2.ensures, c.mask_bytes-a.ensures.0) (rw c.if-place.false at h)
+    c.held.ensures ∙ rw (c.named_at-f.ensures, c.string.ensures, c.mask_bytes-a.ensures.0) (reads (goal.at.returns c).In_ok-place).0

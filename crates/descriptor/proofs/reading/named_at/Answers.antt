@@ -8,4 +8,4 @@ pub returns : goal.returns
 returns c =
     let g = c.args in
     c.named_by.ensures
-    ∙ rw (c.requires.shapes.shapes-are, c.class_of.ensures.0, c.byte_at-id.ensures) (shaped-table g.in_ro (entry_at g.a g.s.now g.start g.offset))
+    ∙ rw (c.class_of.ensures.0, c.byte_at-id.ensures) (shaped-table g.in_ro (entry_at g.a g.s.now g.mark.at g.mark.sum))

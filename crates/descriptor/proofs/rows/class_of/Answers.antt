@@ -8,5 +8,5 @@ use Rattle.descriptor.proofs.rows.class_of.Goals as goal
 pub returns : goal.returns
 returns c =
     let id = c.args.id in
-    let q : c.class_in.result ≡ class_of id = rw c.requires at c.class_in.ensures ∙ class-table id in
+    let q : c.class_in.result ≡ class_of id = c.class_in.ensures ∙ class-table id in
     rw q (refl, class-small id)

@@ -5,27 +5,27 @@ use Rattle.std.proofs.Common.{rules}
 use Rattle.descriptor.proofs.Maps.{sizes, middle, end-sum, map-printed}
 use Rattle.descriptor.proofs.text.put_map.Goals as goal
 
-pub entries-m-requires-clause-ready : goal.entries-m-requires-clause-ready
-entries-m-requires-clause-ready c =
+pub invariant_of-rw : goal.invariant_of-rw
+invariant_of-rw c =
     record {
-      classes-is = refl;
-      table-is = refl;
-      mask-low = c.mask_bytes-a.ensures.1;
-      mask-top = c.mask_bytes-a.ensures.2;
-      short = (sizes _ _ _ c.requires).rw;
+      ready = record {
+        mask-low = c.mask_bytes-a.ensures.1;
+        mask-top = c.mask_bytes-a.ensures.2;
+        short = (sizes _ _ _ c.requires).rw;
+      };
     }
 
 pub entries-m-requires-clause-room : goal.entries-m-requires-clause-room
 entries-m-requires-clause-room c = let z = sizes _ _ _ c.requires in omega (arith, c.push_text.ensures.size, z.rw)
 
-pub entries-e-requires-clause-ready : goal.entries-e-requires-clause-ready
-entries-e-requires-clause-ready c =
+pub invariant_of-ro : goal.invariant_of-ro
+invariant_of-ro c =
     record {
-      classes-is = refl;
-      table-is = refl;
-      mask-low = c.mask_bytes-a.ensures.1;
-      mask-top = c.mask_bytes-a.ensures.2;
-      short = (sizes _ _ _ c.requires).ro;
+      ready = record {
+        mask-low = c.mask_bytes-a.ensures.1;
+        mask-top = c.mask_bytes-a.ensures.2;
+        short = (sizes _ _ _ c.requires).ro;
+      };
     }
 
 pub entries-e-requires-clause-before_le_entry_limit : goal.entries-e-requires-clause-before_le_entry_limit

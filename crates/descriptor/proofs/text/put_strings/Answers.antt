@@ -5,7 +5,7 @@ use Rattle.rules.proofs.Load.LoadNumber.{load-number}
 use Rattle.descriptor.proofs.text.put_strings.Goals as goal
 
 pub put_refused-requires : goal.put_refused-requires
-put_refused-requires c = omega (arith, load-number c.args.count c.args.rw.now c.args.ro.now _ (sym c.in-Err.ensures))
+put_refused-requires c = omega (arith, load-number c.args.desc.count c.args.desc.rw.now c.args.desc.ro.now _ (sym c.in-Err.ensures))
 
 pub put_map-requires : goal.put_map-requires
 put_map-requires c =

@@ -14,17 +14,17 @@ passes : (c : In-Ok) →
     (1 < length g.s.now) × (past (with_count g.st c.in-Ok.c) (byte_at g.s.now 1) ≡ passed g.st (decode_at g.a g.s.now 0 g.st))
 passes c =
     let g = c.args in
-    passes-entry g.a g.s.now g.st (omega arith) _ (rw c.count_of.ensures.0 at c.in-Ok.ensures.answer)
+    passes-entry g.a g.s.now g.st (omega arith) _ (rw c.from.ensures.0 at c.in-Ok.ensures.answer)
 
 pub bounds-s-1 : goal.bounds-s-1
 bounds-s-1 c = (passes (goal.at.bounds-s-1 c).In-Ok).0
 
 pub returns-in-Ok : goal.returns-in-Ok
-returns-in-Ok c = rw (lt-ltb 0 (length c.args.s.now) (omega arith), c.counting.ensures) (passes (goal.at.returns-in-Ok c).In-Ok).1
+returns-in-Ok c = rw (lt-ltb 0 (length c.args.s.now) (omega arith), c.within.ensures) (passes (goal.at.returns-in-Ok c).In-Ok).1
 
 pub returns-in-Err : goal.returns-in-Err
 returns-in-Err c =
     let g = c.args in
     let some : 0 < length g.s.now = omega arith in
     rw (lt-ltb 0 (length g.s.now) some)
-    (ap Err c.after.ensures ∙ refuses-entry g.a g.s.now g.st some _ (rw c.count_of.ensures.0 at c.in-Err.ensures.answer))
+    (ap Err c.after.ensures ∙ refuses-entry g.a g.s.now g.st some _ (rw c.from.ensures.0 at c.in-Err.ensures.answer))

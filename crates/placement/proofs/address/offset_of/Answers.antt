@@ -4,7 +4,7 @@ use Rattle.placement.proofs.Addressing.{small, main-offset, overflow-offset, ove
 use Rattle.placement.proofs.address.offset_of.Goals as goal
 
 pub returns-then-has : goal.returns-then-has
-returns-then-has c = main-offset c.args.set c.line_of.ensures c.args.page c.args.byte (rw c.has.ensures at c.if-has.true)
+returns-then-has c = main-offset c.args.set c.line_of.ensures c.args.at.page c.args.at.byte (rw c.has.ensures at c.if-has.true)
 
 pub overflow_add-result : goal.overflow_add-result
 overflow_add-result c = omega (arith, small c.args.set c.line_of.ensures)
@@ -12,7 +12,7 @@ overflow_add-result c = omega (arith, small c.args.set c.line_of.ensures)
 pub returns-then-not-has : goal.returns-then-not-has
 returns-then-not-has c =
     let g = c.args in
-    no-offset g.set c.line_of.ensures g.page g.byte (rw c.has.ensures at c.if-has.false) (rw c.has-2.ensures at c.if-not-has.true)
+    no-offset g.set c.line_of.ensures g.at.page g.at.byte (rw c.has.ensures at c.if-has.false) (rw c.has-2.ensures at c.if-not-has.true)
 
 pub overflow_sub-result-2 : goal.overflow_sub-result-2
 overflow_sub-result-2 c = omega (arith, small c.args.set c.line_of.ensures)
@@ -20,9 +20,9 @@ overflow_sub-result-2 c = omega (arith, small c.args.set c.line_of.ensures)
 pub overflow_add-result-2 : goal.overflow_add-result-2
 overflow_add-result-2 c =
     let g = c.args in
-    omega (arith, small g.set c.line_of.ensures, overflow-inside g.set c.line_of.ensures g.page g.byte (rw c.has-2.ensures at c.if-not-has.false))
+    omega (arith, small g.set c.line_of.ensures, overflow-inside g.set c.line_of.ensures g.at.page g.at.byte (rw c.has-2.ensures at c.if-not-has.false))
 
 pub returns : goal.returns
 returns c =
     let g = c.args in
-    overflow-offset g.set c.line_of.ensures g.page g.byte (rw c.has.ensures at c.if-has.false) (rw c.has-2.ensures at c.if-not-has.false)
+    overflow-offset g.set c.line_of.ensures g.at.page g.at.byte (rw c.has.ensures at c.if-has.false) (rw c.has-2.ensures at c.if-not-has.false)

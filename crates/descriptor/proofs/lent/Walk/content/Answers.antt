@@ -5,18 +5,18 @@ use Rattle.std.proofs.lemmas.Bool.{lt-ltb, le-ltb}
 use Rattle.rules.specs.Descriptor.{byte_at, entry_at, late_host, refuse, content_checks}
 use Rattle.descriptor.specs.Counts.{alone}
 use Rattle.descriptor.proofs.Chain.{side-is, media-is, needed-is, step-is}
-use Rattle.descriptor.proofs.decode.content.Goals as goal
-use Rattle.descriptor.proofs.decode.content.Goals.{After-late_host, Else-reserved_step}
+use Rattle.descriptor.proofs.lent.Walk.content.Goals as goal
+use Rattle.descriptor.proofs.lent.Walk.content.Goals.{After-late_host, Else-reserved_step}
 
 -- what is left past 3, 4 and 5
 past-five : (c : Else-reserved_step) →
     let g = c.args in
-    let e = entry_at g.a g.s.now g.at g.c.sum in
-    content_checks (alone g.in_ro g.c) e ≡ refuse (late_host e g.c.media) 6 (refuse (ltb 256 (g.c.sum + e.memory)) 7 (Ok e))
+    let e = entry_at g.self.a g.self.s.now g.at g.c.sum in
+    content_checks (alone g.self.in_ro g.c) e ≡ refuse (late_host e g.c.media) 6 (refuse (ltb 256 (g.c.sum + e.memory)) 7 (Ok e))
 unfolding content_checks refuse
 past-five c =
     rw (
-      ← side-is c.requires c.args.in_ro,
+      ← side-is c.requires c.args.self.in_ro,
       ← c.stands.ensures,
       c.if-not-stands.false,
       ← needed-is c.requires,
@@ -28,23 +28,23 @@ past-five c =
     refl
 
 -- 6 is tested as the rules test it
-late : (c : After-late_host) → let g = c.args in late_host (entry_at g.a g.s.now g.at g.c.sum) g.c.media ≡ c.late_host.result
-late c = rw (← media-is c.requires (byte_at c.args.s.now (c.args.at + 3 + c.args.a)), ← c.media_at-media.ensures) (sym c.late_host.ensures)
+late : (c : After-late_host) → let g = c.args in late_host (entry_at g.self.a g.self.s.now g.at g.c.sum) g.c.media ≡ c.late_host.result
+late c = rw (← media-is c.requires (byte_at c.args.self.s.now (c.args.at + 3 + c.args.self.a)), ← c.media_at-media.ensures) (sym c.late_host.ensures)
 
 pub returns-then-not-stands : goal.returns-then-not-stands
 unfolding content_checks refuse
-returns-then-not-stands c = rw (← side-is c.requires c.args.in_ro, ← c.stands.ensures, c.if-not-stands.true) refl
+returns-then-not-stands c = rw (← side-is c.requires c.args.self.in_ro, ← c.stands.ensures, c.if-not-stands.true) refl
 
 pub returns-then-memory-row : goal.returns-then-memory-row
 unfolding content_checks refuse
 returns-then-memory-row c =
-    rw (← side-is c.requires c.args.in_ro, ← c.stands.ensures, c.if-not-stands.false, ← needed-is c.requires, lt-ltb _ _ c.if-memory-row.true) refl
+    rw (← side-is c.requires c.args.self.in_ro, ← c.stands.ensures, c.if-not-stands.false, ← needed-is c.requires, lt-ltb _ _ c.if-memory-row.true) refl
 
 pub returns-then-reserved_step : goal.returns-then-reserved_step
 unfolding content_checks refuse
 returns-then-reserved_step c =
     rw (
-      ← side-is c.requires c.args.in_ro,
+      ← side-is c.requires c.args.self.in_ro,
       ← c.stands.ensures,
       c.if-not-stands.false,
       ← needed-is c.requires,
@@ -66,13 +66,13 @@ unfolding refuse
 returns-then-c-memory-gt256 c =
     let k = goal.at.returns-then-c-memory-gt256 c in
     let g = c.args in
-    rw (past-five k.Else-reserved_step, late k.After-late_host, c.if-late_host.false, lt-ltb 256 (g.c.sum + byte_at g.s.now (g.at + 2 + g.a)) (omega arith)) refl
+    rw (past-five k.Else-reserved_step, late k.After-late_host, c.if-late_host.false, lt-ltb 256 (g.c.sum + byte_at g.self.s.now (g.at + 2 + g.self.a)) (omega arith)) refl
 
 pub returns : goal.returns
 unfolding refuse
 returns c =
     let k = goal.at.returns c in
     let g = c.args in
-    let media = c.media_at-media.ensures ∙ media-is c.requires (byte_at g.s.now (g.at + 3 + g.a)) in
-    let after = c.next.ensures g.in_ro (entry_at g.a g.s.now g.at g.c.sum) refl (sym media) in
-    rw (past-five k.Else-reserved_step, late k.After-late_host, c.if-late_host.false, le-ltb 256 (g.c.sum + byte_at g.s.now (g.at + 2 + g.a)) (omega arith), after) refl
+    let media = c.media_at-media.ensures ∙ media-is c.requires (byte_at g.self.s.now (g.at + 3 + g.self.a)) in
+    let after = c.next.ensures g.self.in_ro (entry_at g.self.a g.self.s.now g.at g.c.sum) refl (sym media) in
+    rw (past-five k.Else-reserved_step, late k.After-late_host, c.if-late_host.false, le-ltb 256 (g.c.sum + byte_at g.self.s.now (g.at + 2 + g.self.a)) (omega arith), after) refl

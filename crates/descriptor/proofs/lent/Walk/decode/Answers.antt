@@ -2,7 +2,7 @@
 use Rattle.std.proofs.Common.{refl, arith}
 use Rattle.std.proofs.lemmas.Bool.{le-leb, lt-leb}
 use Rattle.rules.specs.Descriptor.{entry_limit, refuse, decode_within}
-use Rattle.descriptor.proofs.decode.decode.Goals as goal
+use Rattle.descriptor.proofs.lent.Walk.decode.Goals as goal
 
 pub returns-then-c-ge-ENTRY_LIMIT : goal.returns-then-c-ge-ENTRY_LIMIT
 unfolding decode_within refuse

@@ -3,33 +3,33 @@ use Rattle.std.proofs.Common.{◌≡◌, refl, false, ◌+◌, ◌-◌, length, 
 use Rattle.std.proofs.lemmas.Bool.{lt-ltb, le-ltb, eq-eqb, ne_eqb}
 use Rattle.rules.specs.Descriptor.{byte_at, entry_at, overruns, refuse, length_checks, decode_within}
 use Rattle.descriptor.proofs.TableRows.{row}
-use Rattle.descriptor.proofs.decode.checked.Goals as goal
-use Rattle.descriptor.proofs.decode.checked.Goals.{Else-s-at}
+use Rattle.descriptor.proofs.lent.Walk.checked.Goals as goal
+use Rattle.descriptor.proofs.lent.Walk.checked.Goals.{Else-s-at}
 
 -- 1 is passed
-one : (c : Else-s-at) → let g = c.args in overruns (length g.s.now - g.at) (entry_at g.a g.s.now g.at g.c.sum) ≡ false
+one : (c : Else-s-at) → let g = c.args in overruns (length g.self.s.now - g.at) (entry_at g.self.a g.self.s.now g.at g.c.sum) ≡ false
 one c =
     let g = c.args in
-    rw (ne_eqb (length g.s.now - g.at) 1 (omega arith), le-ltb (length g.s.now - g.at) (byte_at g.s.now (g.at + 1)) (omega arith)) refl
+    rw (ne_eqb (length g.self.s.now - g.at) 1 (omega arith), le-ltb (length g.self.s.now - g.at) (byte_at g.self.s.now (g.at + 1)) (omega arith)) refl
 
 pub returns-then-at-s : goal.returns-then-at-s
 unfolding decode_within length_checks refuse
-returns-then-at-s c = let g = c.args in rw (eq-eqb (length g.s.now - g.at) 1 (omega arith)) refl
+returns-then-at-s c = let g = c.args in rw (eq-eqb (length g.self.s.now - g.at) 1 (omega arith)) refl
 
 pub returns-then-s-at : goal.returns-then-s-at
 unfolding decode_within length_checks refuse
 returns-then-s-at c =
     let g = c.args in
-    rw (ne_eqb (length g.s.now - g.at) 1 (omega arith), lt-ltb (length g.s.now - g.at) (byte_at g.s.now (g.at + 1)) (omega arith)) refl
+    rw (ne_eqb (length g.self.s.now - g.at) 1 (omega arith), lt-ltb (length g.self.s.now - g.at) (byte_at g.self.s.now (g.at + 1)) (omega arith)) refl
 
 pub returns-then-length-row : goal.returns-then-length-row
 unfolding decode_within length_checks refuse
 returns-then-length-row c =
-    let short = rw (c.requires.walking.table-is, c.class_of.ensures.0, (row (byte_at c.args.s.now c.args.at)).least) at c.if-length-row.true in
+    let short = rw (c.class_of.ensures.0, (row (byte_at c.args.self.s.now c.args.at)).least) at c.if-length-row.true in
     rw (one (goal.at.returns-then-length-row c).Else-s-at, lt-ltb _ _ short) refl
 
 pub returns : goal.returns
 unfolding decode_within length_checks refuse
 returns c =
-    let long = rw (c.requires.walking.table-is, c.class_of.ensures.0, (row (byte_at c.args.s.now c.args.at)).least) at c.if-length-row.false in
+    let long = rw (c.class_of.ensures.0, (row (byte_at c.args.self.s.now c.args.at)).least) at c.if-length-row.false in
     rw (one (goal.at.returns c).Else-s-at, le-ltb _ _ long) c.content.ensures

@@ -1,25 +1,25 @@
 -- `scan` meets its contract.
-use Rattle.std.proofs.Common.{sym, arith}
+use Rattle.std.proofs.Common.{◌∙◌, sym, arith}
 use Rattle.rules.specs.Descriptor.{decode_at}
 use Rattle.rules.proofs.Load.Checks.{decode-passed}
 use Rattle.descriptor.specs.Counts.{alone}
 use Rattle.descriptor.proofs.Scan.{Went, went, failed-by, next-small, scan-begin, scan-end, scan-stop, scan-one, scan-goes}
-use Rattle.descriptor.proofs.walk.scan.Goals as goal
-use Rattle.descriptor.proofs.walk.scan.Goals.{In-Ok}
+use Rattle.descriptor.proofs.lent.Walk.scan.Goals as goal
+use Rattle.descriptor.proofs.lent.Walk.scan.Goals.{In-Ok}
 
 -- the entry that a turn goes past
 gone : (c : In-Ok) →
-    let st = alone c.args.in_ro c.loop-at.c in
-    Went c.loop-at.at st (decode_at c.args.a c.args.s.now c.loop-at.at st) c.in-Ok.past.at c.in-Ok.past.counts
+    let st = alone c.args.self.in_ro c.loop-at.c in
+    Went c.loop-at.at st (decode_at c.args.self.a c.args.self.s.now c.loop-at.at st) c.in-Ok.past.at c.in-Ok.past.counts
 gone c = went _ _ _ _ _ (sym c.in-Ok.ensures)
 
 pub loop-at-init : goal.loop-at-init
-loop-at-init c = scan-begin _ _ _ _ _ c.requires.small_2
+loop-at-init c = scan-begin _ _ _ _ _ c.requires
 
-pub returns-in-Err-clause-answer : goal.returns-in-Err-clause-answer
-returns-in-Err-clause-answer c =
-    let st = alone c.args.in_ro c.loop-at.c in
-    scan-stop c.loop-at.invariant c.loop-at-test.true _ (failed-by c.loop-at.at st _ _ (sym c.in-Err.ensures))
+pub returns-in_default-clause-answer : goal.returns-in_default-clause-answer
+returns-in_default-clause-answer c =
+    let st = alone c.args.self.in_ro c.loop-at.c in
+    c.stopped.ensures ∙ rw c.in_default.is (scan-stop c.loop-at.invariant c.loop-at-test.true _ (failed-by c.loop-at.at st _ _ (sym c.in_default.ensures)))
 
 pub returns-then-one-clause-answer : goal.returns-then-one-clause-answer
 returns-then-one-clause-answer c =
