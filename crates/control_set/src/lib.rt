@@ -246,7 +246,7 @@ pub fn weight(desc: Descriptors, bank: &[u8], entry: usize, lane: usize) -> Resu
             lane,
         },
     )?;
-    // 12h alone has a step.
+    // Of what `find` answers, 12h alone has a step.
     let Some(step) = f.step else {
         return Err(Refusal::Plain(10));
     };

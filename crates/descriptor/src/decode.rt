@@ -38,8 +38,8 @@ fn reserved_step(row: [u8; 4], s: &[u8], from: usize) -> bool
     false
 }
 
-// Whether an entry with its PropertyFlags at a place is media side, where the least Length has them. (Here and in the next two the tests in
-// one `&&` make the load take 88 ns, for 74, on 16 entries.)
+// Whether an entry with its PropertyFlags at a place is media side, where the least Length has them. (Here and in the next two
+// the tests in one `&&` make the load take 88 ns, for 72, on 16 entries.)
 fn media_at(least: u8, s: &[u8], at: usize) -> bool
     requires { 3 < least → at < length s.now }
     ensures { result ≡ media_side (ltb 3 least) (byte_at s.now at) }

@@ -61,7 +61,7 @@ pub fn accepted_at(values: Values, s: &[u8], from: usize) -> Accepted
     }
 }
 
-// The step of a field that has one, after what it accepts.
+// The step of a 12h entry, the only one that a call asks for.
 #[tactic(auto, unfolding(crate::specs::Wide::step_at))]
 fn step_at(values: Values, s: &[u8], from: usize) -> Option<usize>
     requires { from ≤ 500 }

@@ -1,6 +1,5 @@
 // Document 01's table with the lines that 02 adds: constant rows, indexed by ID class, their cells in named columns; accepted values
-// by ID. What they say of an ID is proved for every ID. Classes, sides and columns are numbers, and 0 is no step: document 01 asks for
-// constant rows indexed by ID class.
+// by ID. What they say of an ID is proved for every ID. Document 01 asks for constant rows indexed by ID class.
 ghost use Rattle.std.specs.Prelude.{◌≡◌};
 ghost use Rattle.descriptor.specs.Rows.{are_signed, values_of};
 

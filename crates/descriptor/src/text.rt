@@ -97,8 +97,8 @@ impl Text<'_> {
         self.line(&[id, st.sum as usize, memory])
     }
 
-    // A line for each entry of a string, up to its end or an entry that fails a check; the state there. A walk beside `scan`, which has to
-    // stay as small as it is (see there).
+    // A line for each entry of a string, up to its end or an entry that fails a check; the state there. A walk beside `scan`, which
+    // has to stay as small as it is to be inlined (see there).
     fn entries(&mut self, walk: Walk, begin: State) -> State
         requires before_le_entry_limit { (begin.before ≤ entry_limit) × (begin.sum ≤ 256) }
         requires room { self.old.length + 4 * length walk.s.now ≤ 1024 }

@@ -26,7 +26,8 @@ impl Stop {
     }
 }
 
-// A refusal leaves with its entry's place among those of the string.
+// What the walk makes of a decode that ends it: a refusal with its entry's place among those of the string (`let .. else` doesn't bind the
+// number that the refusal leaves with; past an entry, its counts).
 fn stopped(decoded: Result<Past, usize>, entries: usize) -> Result<Count, Stop>
     ensures { result ≡ stopped_of decoded entries }
 {
@@ -38,7 +39,8 @@ fn stopped(decoded: Result<Past, usize>, entries: usize) -> Result<Count, Stop>
 
 impl Walk<'_> {
     // The walk of the string from its beginning on, or of its first entry alone: the counts at its end. `pass_in` asks for the first entry
-    // here, since the compiler leaves `decode` a call where it has a second caller (the load then takes 2.7 times as long).
+    // here, since the compiler leaves `decode` a call where the load has it a second time
+    // (the load then takes 2.7 times as long; with `scan` larger by a test too).
     pub fn scan(self, one: bool, begin: Count) -> Result<Count, Stop>
         requires { Small begin }
         ensures answer { result ≡ counted_of (walk_alone one self.entry.a self.entry.s.now (alone self.entry.in_ro begin)) }
