@@ -4,20 +4,19 @@ use mathlib.Core.Path.{◌≡◌, refl, sym, ap, ap₂, ◌∙◌}
 use mathlib.Core.Logic.{◌⊎◌, inl, inr, ◌≢◌}
 use mathlib.Core.Bool.{Bool, true, false, ◌&&◌, not, cond}
 use mathlib.Core.List.{List, ◌++◌}
-use Prim.Native.Nat.{ℕ, zero, suc, ◌+◌, ◌-◌, ◌*◌, ◌^◌, ◌≤◌, ◌<◌}
+use Prim.Native.Nat.{ℕ, ◌+◌, ◌-◌, ◌*◌, ◌^◌, ◌≤◌, ◌<◌}
 use native.Mathlib.Omega.{arith}
 use native.Mathlib.Decide.{dec_lt}
 use lib.ListN.{length, get_or}
 use lib.Dec.{eqb, leb}
-use borrow.Author.Tests.{ne_eqb}
+use borrow.Author.Tests.{lt-ltb, ne_eqb}
 use Rattle.rules.specs.Words.{accepted, says_yes}
-use Rattle.std.specs.Option.{unwrap_or}
-use Rattle.std.specs.Prelude.{Option, None, Some}
 use Rattle.rules.specs.declared.Entry.{Entry}
 use Rattle.rules.specs.declared.Call.{Call}
-use Rattle.rules.specs.declared.Refusal.TheVariants.{Plain as plain, AtLane as at_lane}
-use Rattle.rules.specs.Numbers.{cut, any, lowest}
-use Rattle.rules.specs.Descriptor.{mask_bytes, byte_at, high_first, has_app}
+use Rattle.rules.specs.declared.Refusal.{Refusal}
+use Rattle.rules.specs.declared.Refusal.TheVariants.{Plain as plain}
+use Rattle.rules.specs.Numbers.{cut, any}
+use Rattle.rules.specs.Descriptor.{mask_bytes, byte_at, high_first, is_app, has_app}
 use Rattle.rules.specs.Load.{load_of, rw_entries, Map, map_of, map_within, read_of}
 use Rattle.rules.specs.Place.{held_by, length_of, entry, parts_of, width_of, signed_of, field_byte, field_bit, is_set, Field}
 use Rattle.rules.specs.Accept.{accepts, from_bits}
@@ -26,6 +25,7 @@ use Rattle.rules.specs.Refuse.{first_of, bank_order, exists, misdirected, unacce
 use Rattle.rules.specs.Source.{kept, copied, is_copied}
 use Rattle.rules.specs.Bank.{Bank, field_at, get_field, number_in, app_sel_in, bank_lacks_app, bank_source, bits_from, bank_holds_bad, bank_plan, apply_bank, bank_does, bank_call}
 use Rattle.rules.specs.Demands.{Accepted}
+use Rattle.rules.proofs.Apply.Plans.{lowest-same}
 use Rattle.rules.proofs.Apply.Applied.{Applied, apply-is, apply-bytes, applied-one}
 use Rattle.rules.proofs.Bank.Places.{named-has-bytes, set-inside}
 use Rattle.rules.proofs.Basics.Any.{any-ext}
@@ -42,12 +42,14 @@ use Rattle.rules.proofs.Refusals.Orders.{bank-order-accepted}
 use Rattle.rules.proofs.Refusals.PlanRules.{is-copied}
 use Rattle.descriptor.proofs.EntryReads.{mark-on, read-is, read-entry}
 use Rattle.descriptor.proofs.Marks.{Marked, marked}
-use Rattle.control_set.specs.declared.plan.Chosen.{Chosen}
+use Rattle.control_set.specs.declared.chosen.Chosen.{Chosen}
 use Rattle.control_set.specs.Field.{bits_at}
 use Rattle.control_set.specs.Gate.{Opened}
-use Rattle.control_set.specs.Lanes.{Lanes, NoLane, lane_at}
-use Rattle.control_set.specs.Plan.{Asked, Arranged, rw_entry, fields_of, Walk, copies_by, lacks_by, refused_at, refused_in, refused_among, Planned, Merged}
-use Rattle.control_set.proofs.LaneMasks.{any-clear, lanes-lowest, lanes-clear}
+use Rattle.control_set.specs.Lanes.{NoLane}
+use Rattle.control_set.specs.Asked.{Asked}
+use Rattle.control_set.specs.Chosen.{app_of, copies_by, lacks_by}
+use Rattle.control_set.specs.Plan.{Arranged, rw_entry, end_of, Walk, refused_at, refused_in, refused_among, Planned, Merged}
+use Rattle.control_set.proofs.LaneMasks.{any-clear, no-lane, width-whole}
 use Rattle.control_set.proofs.Masks.{cut-merged, merge-by-lt, merge-by-none}
 use Rattle.control_set.proofs.Outcomes.{count-top, call-10, call-11}
 use Rattle.control_set.proofs.Spots.{number-field}
@@ -67,24 +69,6 @@ and-any false n f = sym (any-clear n (λ k. false) (λ k. refl))
 from-source : (t : Bool) (m : Map) (b : Bank) (s e p i : ℕ) → bits_from (cond t copied kept) m b s e p i ≡ cond t (get_field m b s e p i) (get_field m b 2 e p i)
 from-source true m b s e p i = refl
 from-source false m b s e p i = refl
-
--- 13 and 14 by a mask of lanes, whose lowest one is looked for
-some-lane : (n k : ℕ) → lane_at n ≡ Some k → (n ≡ k) × (eqb n 0 ≡ false)
-some-lane zero k q = let o : ◌≡◌ {A = ℕ} 0 1 = cc in absurd (omega arith)
-some-lane (suc n) k q = (ap (λ (o : Option ℕ). unwrap_or o 0) q, ne_eqb (suc n) 0 (λ z. omega arith))
-
-no-lane : (n : ℕ) → lane_at n ≡ None → n ≡ 0
-no-lane zero q = refl
-no-lane (suc n) q = let o : ◌≡◌ {A = ℕ} 0 1 = cc in absurd (omega arith)
-
-module _ (number : ℕ) (f : ℕ → Bool) (lanes : ℕ) {o : Option ℕ} (h : Lanes 9 f lanes) (q : o ≡ lane_at (lowest 8 1 (chooses lanes))) where
-  lowest-refuses : (k : ℕ) → o ≡ Some k → at_lowest number f ≡ refuses (at_lane number k)
-  unfolding at_lowest
-  lowest-refuses k z = let (e, ne) = some-lane _ k (sym q ∙ z) in rw (← lanes-lowest f lanes h, ne, e) refl
-
-  lowest-passes : o ≡ None → at_lowest number f ≡ passes
-  unfolding at_lowest
-  lowest-passes z = rw (← lanes-lowest f lanes h, no-lane _ (sym q ∙ z)) refl
 
 -- the RW entries of strings that load
 module _ (count : ℕ) (first last : List ℕ) (n k c t : ℕ) (h : load_of count first last ≡ accepted n k c t) where
@@ -115,26 +99,23 @@ module _ (count : ℕ) (first last : List ℕ) (n k c t : ℕ) (h : load_of coun
   is : (e : ℕ) → e < n → rw_entry count first e ≡ entry (map_of count first last) e
   is e l = sym (in-rw count first last ok e (in-map e l))
 
-  arranged : ((i : ℕ) → byte_at first i < 256) → Arranged n (rw_entry count first)
-  arranged bytes =
+  arranged : Arranged n (rw_entry count first)
+  arranged =
       record {
-        spread = λ e l.
+        spread = λ e l some.
             let g = rw (← is e l) at (entry-good m good 2 e (rw-held m good 2 e (in-map e l))) in
             let u = rw (← is e l) at (entry-ends m good 2 e (rw-held m good 2 e (in-map e l))) in
-            record { whole = g.width; inside = omega (arith, g.room, u) };
-        masks = λ e l.
-            let law : Marked (mask_bytes count) first 0 (rw_entries count first) = marked count first last ok false in
-            rw (ap (λ (x : Entry). x.mask) (law.heads e (omega (arith, all))).says) (mask-small count first ((rw_entry count first e).start + 2) bytes);
+            record { some = some; whole = width-whole _ (g.width some); inside = omega (arith, g.room, u) };
         order = λ e e' l l'.
             let g = rw (← is e (omega arith)) at (entry-good m good 2 e (rw-held m good 2 e (in-map e (omega arith)))) in
             let u = rw (← is e (omega arith), ← is e' l') at (entries-apart m good 2 2 e e' (rw-held m good 2 e (in-map e (omega arith))) (rw-held m good 2 e' (in-map e' l')) l) in
             omega (arith, g.room, u);
       }
 
-  pub walk : ((i : ℕ) → byte_at first i < 256) → Walk count first n
-  walk bytes =
+  pub walk : Walk count first n
+  walk =
       record {
-        arranged = arranged bytes;
+        arranged = arranged;
         low = λ e l. (mark-on count first last n k c t h e l).place;
         is = read-is count first last n k c t h;
         read = read-entry count first last n k c t h;
@@ -145,7 +126,7 @@ module _ (count : ℕ) (first last : List ℕ) (n k c t : ℕ) (h : load_of coun
   unfolding map_within length_of
   staged-most = omega (arith, good.lengths 0, (load-accepted count first last n k c t h).staged)
 
-  pub staged-none : {s lanes : ℕ} {b : Bank} {plan : List ℕ} → Planned (record { count = count; set = s; lanes = lanes }) n (rw_entry count first) b plan → (j : ℕ) → c ≤ j → get_or plan j 0 ≡ 0
+  pub staged-none : {q : Chosen} {plan : List ℕ} → Planned q n (rw_entry count first) plan → (j : ℕ) → c ≤ j → get_or plan j 0 ≡ 0
   unfolding map_within length_of held_by
   staged-none pl j l =
       pl.rest j
@@ -154,22 +135,32 @@ module _ (count : ℕ) (first last : List ℕ) (n k c t : ℕ) (h : load_of coun
       let u = rw (← is e he) at (good.ends 0 e (in-map e he)) in
       omega (arith, g.room, u, (load-accepted count first last n k c t h).staged))
 
-  module _ (s lanes : ℕ) (b : Bank) where
-    abbrev asked : ℕ → Chosen
-    asked n = record { count = n; set = s; lanes = lanes }
+  -- what is asked
+  module _ (q : Chosen) (same : q.desc.count ≡ count) where
+    abbrev s : ℕ
+    s = q.set
 
-    lacks-is : (i : ℕ) → lacks_by (asked count) b i ≡ bank_lacks_app (map_of count first last) b s lanes i
-    unfolding bank_lacks_app
-    lacks-is i = ap (λ n. lacks_by (asked n) b i) (sym map-count)
+    abbrev lanes : ℕ
+    lanes = q.lanes
+
+    abbrev b : Bank
+    b = q.bank.now
+
+    counted : q.desc.count ≡ (map_of count first last).count
+    counted = same ∙ sym map-count
+
+    lacks-is : (i : ℕ) → lacks_by q i ≡ bank_lacks_app (map_of count first last) q.bank.now q.set q.lanes i
+    unfolding lacks_by bank_lacks_app
+    lacks-is i = ap (λ n. chooses lanes i && not (is_app n (app_of q i))) counted
 
     -- an entry, as the rules see it
     module _ (e : ℕ) (he : e < n) where
       abbrev x : Entry
       x = rw_entry count first e
 
-      copies-is : (i : ℕ) → copies_by (asked count) (rw_entry count first e).mask b i ≡ is_copied (bank_source (map_of count first last) b s lanes e i)
+      copies-is : (i : ℕ) → copies_by q (rw_entry count first e).mask i ≡ is_copied (bank_source (map_of count first last) b s lanes e i)
       unfolding bank_source
-      copies-is i = ap₂ (λ (n : ℕ) (y : Entry). copies_by (asked n) y.mask b i) (sym map-count) (is e he) ∙ sym (is-copied _)
+      copies-is i = ap₂ (λ (n : ℕ) (y : Entry). chooses lanes i && has_app n y.mask (app_of q i)) counted (is e he) ∙ sym (is-copied _)
 
       fine-is : (p i : ℕ)
           → p < parts_of x
@@ -178,22 +169,22 @@ module _ (count : ℕ) (first last : List ℕ) (n k c t : ℕ) (h : load_of coun
       fine-is p i hp = ap₂ accepts (is e he) (number-field m b s e p i x (is e he) (width_of x) refl (signed_of x) refl)
 
       refused-is : (i : ℕ)
-          → (copies_by (asked count) (rw_entry count first e).mask b i && refused_in s (rw_entry count first e) b i)
+          → (copies_by q (rw_entry count first e).mask i && refused_in s (rw_entry count first e) b i)
           ≡ any (parts_of (entry (map_of count first last) e)) (λ p. is_copied (bank_source (map_of count first last) b s lanes e i) && not (accepts (entry (map_of count first last) e) (number_in (map_of count first last) b s e p i)))
       unfolding refused_in refused_at
       refused-is i =
-          and-any (copies_by (asked count) x.mask b i) (parts_of x) (λ p. not (accepts x (from_bits (signed_of x) (width_of x) (bits_at b s x.offset p (width_of x) i))))
+          and-any (copies_by q x.mask i) (parts_of x) (λ p. not (accepts x (from_bits (signed_of x) (width_of x) (bits_at b s x.offset p (width_of x) i))))
           ∙ any-ext (parts_of x) _ _ (λ p hp. ap₂ (λ (c v : Bool). c && not v) (copies-is i) (fine-is p i hp))
           ∙ ap (λ (y : Entry). any (parts_of y) λ p. is_copied (bank_source m b s lanes e i) && not (accepts (entry m e) (number_in m b s e p i))) (is e he)
 
-    among-is : (i : ℕ) → refused_among (asked count) n (rw_entry count first) b i ≡ bank_holds_bad (map_of count first last) b s lanes i
+    among-is : (i : ℕ) → refused_among q n (rw_entry count first) i ≡ bank_holds_bad (map_of count first last) b s lanes i
     unfolding refused_among bank_holds_bad
     among-is i =
         any-ext n _ _ (λ e he. refused-is e he i)
         ∙ ap (λ (n : ℕ). any n λ e. any (parts_of (entry m e)) λ p. is_copied (bank_source m b s lanes e i) && not (accepts (entry m e) (number_in m b s e p i))) (sym all-map)
 
     -- the bank after the copy
-    module _ (bytes : (j : ℕ) → j < bank_size → get_or b j 0 < 256) {plan : List ℕ} {after : Bank} (pl : Planned (asked count) n (rw_entry count first) b plan) (me : Merged 256 s plan b after) where
+    module _ (bytes : (j : ℕ) → j < bank_size → get_or b j 0 < 256) {plan : List ℕ} {after : Bank} (pl : Planned q n (rw_entry count first) plan) (me : Merged 256 s plan b after) where
       abbrev v : ℕ → ℕ → Bool
       v e i = chooses lanes i && has_app m.count (entry m e).mask (app_sel_in b s i)
 
@@ -201,7 +192,9 @@ module _ (count : ℕ) (first last : List ℕ) (n k c t : ℕ) (h : load_of coun
           → cut (get_or plan (field_byte (entry (map_of count first last) e) p i) 0) (field_bit (entry (map_of count first last) e) i) (width_of (entry (map_of count first last) e))
           ≡ cond (v e i) (2 ^ width_of (entry (map_of count first last) e) - 1) 0
       unfolding map_within
-      planned e p i l f = rw (is e l) at (pl.fields e p i l (rw (is e l) f.part) f.low f.top)
+      planned e p i l f =
+          (rw (is e l) at (pl.fields e p i l (rw (is e l) f.part) f.low f.top))
+          ∙ ap (λ (n : ℕ). cond (chooses lanes i && has_app n (entry m e).mask (app_of q i)) (2 ^ width_of (entry m e) - 1) 0) counted
 
       fields : (e p i : ℕ) → e < (map_of count first last).rw_count → Field (map_of count first last) 2 e p i
           → get_field (map_of count first last) after 2 e p i ≡ bits_from (bank_source (map_of count first last) b s lanes e i) (map_of count first last) b s e p i
@@ -215,7 +208,7 @@ module _ (count : ℕ) (first last : List ℕ) (n k c t : ℕ) (h : load_of coun
       outside : (j : ℕ)
           → ((e p i : ℕ) → e < (map_of count first last).rw_count → Field (map_of count first last) 2 e p i → set_start 2 + j ≢ field_at (map_of count first last) 2 e p i)
           → (e : ℕ) → e < n
-          → (j < (fields_of (rw_entry count first e)).offset) ⊎ ((fields_of (rw_entry count first e)).offset + (fields_of (rw_entry count first e)).parts * (fields_of (rw_entry count first e)).width ≤ j)
+          → (j < (rw_entry count first e).offset) ⊎ (end_of (rw_entry count first e) ≤ j)
       outside j out e l = rw (is e l) (go (dec_lt j x.offset) (dec_lt j (x.offset + parts_of x * width_of x)))
         where
           x : Entry
@@ -256,13 +249,13 @@ module _ (count : ℕ) (first last : List ℕ) (n k c t : ℕ) (h : load_of coun
                 (λ j o out. me.rest j o);
           }
 
-      pub apply-copied : bank_size ≤ length b → after ≡ apply_bank (map_of count first last) s lanes b
-      apply-copied size =
-          applied-one m good s lanes b after (apply_bank m s lanes b) applied (apply-is m good s lanes b size)
+      pub apply-copied : after ≡ apply_bank (map_of count first last) q.set q.lanes q.bank.now
+      apply-copied =
+          applied-one m good s lanes b after (apply_bank m s lanes b) applied (apply-is m good s lanes b q.asked.size)
           (either-way (λ j. j < bank_size → get_or after j 0 < 256)
           (λ j hj _. rw (me.here j hj) (merge-by-lt (get_or b (set_start 2 + j) 0) (get_or b (set_start s + j) 0) (get_or plan j 0) (pl.small j)))
           (λ j o u. rw (me.rest j o) (bytes j u)))
-          (apply-bytes m good s lanes b size bytes)
+          (apply-bytes m good s lanes b q.asked.size bytes)
 
   -- the ways out of the call, past 9, 8 and the checks of the entries
   module _ (s lanes : ℕ) (b : Bank) (size : bank_size ≤ length b) where
@@ -272,7 +265,7 @@ module _ (count : ℕ) (first last : List ℕ) (n k c t : ℕ) (h : load_of coun
     o : Opened count first last (length b) n k c t
     o = record { size-is = size; loads = h }
 
-    pub apply-asked : s < 2 → Asked (asked s lanes b count) b
+    pub apply-asked : s < 2 → Asked count s b
     apply-asked l = record { count = count-top count first last h; staged = l; size = size }
 
     pub apply-10 : is_set s ≡ false → bank_call count first last (Call.Apply s lanes) b ≡ (Err (plain 10), b)
@@ -284,30 +277,29 @@ module _ (count : ℕ) (first last : List ℕ) (n k c t : ℕ) (h : load_of coun
       unfolding exists misdirected
       apply-11 l = call-11 count first last call b o is l
 
-      module _ (l : eqb s 2 ≡ false) (none : ℕ) {i : Option ℕ} (r : Lanes 9 (lacks_by (asked s lanes b count) b) none) (q : i ≡ lane_at (lowest 8 1 (chooses none))) where
-        order : bank_order (read_of count first last) (length b) (judge m call ++ bank_plan m call b) ≡ first_of (bank_plan m call b)
-        unfolding exists misdirected unaccepted
-        order = bank-order-accepted count first last ok (length b) _ size ∙ judge-ok m call (bank_plan m call b) is l refl
+  module _ (q : Chosen) (same : q.desc.count ≡ count) where
+    abbrev asks : Call
+    asks = Call.Apply q.set q.lanes
 
-        lacks : Lanes 9 (bank_lacks_app (map_of count first last) b s lanes) none
-        lacks j a u = r j a u ∙ lacks-is s lanes b j
+    order : bank_order (read_of count first last) (length q.bank.now) (judge (map_of count first last) (Call.Apply q.set q.lanes) ++ bank_plan (map_of count first last) (Call.Apply q.set q.lanes) q.bank.now)
+        ≡ first_of (bank_plan (map_of count first last) (Call.Apply q.set q.lanes) q.bank.now)
+    unfolding exists misdirected unaccepted
+    order =
+        bank-order-accepted count first last ok (length q.bank.now) _ q.asked.size
+        ∙ judge-ok m asks (bank_plan m asks q.bank.now) (lt-ltb q.set 3 (omega (arith, q.asked.staged))) (ne_eqb q.set 2 (λ e. omega (arith, q.asked.staged))) refl
 
-        pub apply-13 : (k : ℕ) → i ≡ Some k → bank_call count first last (Call.Apply s lanes) b ≡ (Err (at_lane 13 k), b)
-        unfolding bank_plan
-        apply-13 k z = call-refused count first last call b (at_lane 13 k) (order ∙ rw (lowest-refuses 13 _ none lacks q k z) refl)
+    pub apply-13 : (r : Refusal) → at_lowest 13 (lacks_by q) ≡ refuses r → bank_call count first last (Call.Apply q.set q.lanes) q.bank.now ≡ (Err r, q.bank.now)
+    unfolding bank_plan
+    apply-13 r z = call-refused count first last asks q.bank.now r (order ∙ rw (lowest-same 13 _ (lacks_by q) (λ i _ _. sym (lacks-is q same i)), z) refl)
 
-        pub apply-clear : i ≡ None → NoLane (lacks_by (asked s lanes b count) b)
-        apply-clear z = lanes-clear _ (sym (lanes-lowest _ none r) ∙ no-lane _ (sym q ∙ z))
+    module _ (served : NoLane (lacks_by q)) where
+      passed : at_lowest 13 (bank_lacks_app (map_of count first last) q.bank.now q.set q.lanes) ≡ passes
+      passed = no-lane 13 _ (λ i l u. sym (lacks-is q same i) ∙ served i l u)
 
-        module _ (z : i ≡ None) (bad : ℕ) {j : Option ℕ} (w : Lanes 9 (refused_among (asked s lanes b count) n (rw_entry count first) b) bad) (y : j ≡ lane_at (lowest 8 1 (chooses bad))) where
-          holds : Lanes 9 (bank_holds_bad (map_of count first last) b s lanes) bad
-          holds e a u = w e a u ∙ among-is s lanes b e
+      pub apply-14 : (r : Refusal) → at_lowest 14 (refused_among q n (rw_entry count first)) ≡ refuses r → bank_call count first last (Call.Apply q.set q.lanes) q.bank.now ≡ (Err r, q.bank.now)
+      unfolding bank_plan
+      apply-14 r z = call-refused count first last asks q.bank.now r (order ∙ rw (passed, lowest-same 14 _ (refused_among q n (rw_entry count first)) (λ i _ _. sym (among-is q same i)), z) refl)
 
-          pub apply-14 : (k : ℕ) → j ≡ Some k → bank_call count first last (Call.Apply s lanes) b ≡ (Err (at_lane 14 k), b)
-          unfolding bank_plan
-          apply-14 k u =
-              call-refused count first last call b (at_lane 14 k) (order ∙ rw (lowest-passes 13 _ none lacks q z, lowest-refuses 14 _ bad holds y k u) refl)
-
-          pub apply-done : j ≡ None → bank_call count first last (Call.Apply s lanes) b ≡ (says_yes, apply_bank (map_of count first last) s lanes b)
-          unfolding bank_plan bank_does
-          apply-done u = call-does count first last call b (order ∙ rw (lowest-passes 13 _ none lacks q z, lowest-passes 14 _ bad holds y u) refl)
+      pub apply-done : NoLane (refused_among q n (rw_entry count first)) → bank_call count first last (Call.Apply q.set q.lanes) q.bank.now ≡ (says_yes, apply_bank (map_of count first last) q.set q.lanes q.bank.now)
+      unfolding bank_plan bank_does
+      apply-done z = call-does count first last asks q.bank.now (order ∙ rw (passed, no-lane 14 _ (λ i l u. sym (among-is q same i) ∙ z i l u)) refl)

@@ -34,6 +34,7 @@ use Rattle.rules.proofs.Refusals.Orders.{bank-order-refused, bank-order-accepted
 use Rattle.rules.proofs.Bank.Places.{named-has-bytes}
 use Rattle.descriptor.specs.Cover.{none_covers, cover_of}
 use Rattle.descriptor.proofs.TableRows.{parts-few, width-narrow}
+use Rattle.descriptor.specs.declared.Fields.{Fields}
 use Rattle.descriptor.proofs.Covers.{Covering, cover-refused, cover-none}
 use Rattle.control_set.specs.Gate.{Opened, Reached, ByteGated}
 use Rattle.control_set.proofs.Outcomes.{call-11, call-done}
@@ -71,7 +72,7 @@ module _ (count : ℕ) (first last : List ℕ) (size s k : ℕ) (h : sized count
       let (ok, past) = cover-none count first last k q in
       bank-order-accepted count first last ok size rest l ∙ t (rw (le-ltb k (length_of m s) (past s)) (and-no (is_set s)))
 
-  module _ {in_ro : Bool} {n o parts width : ℕ} (c : Covering count first last k in_ro n o parts width) where
+  module _ {in_ro : Bool} {n : ℕ} {f : Fields} (c : Covering count first last k in_ro n f) where
     byte-is : (is_set s && ltb k (length_of (map_of count first last) s)) ≡ (is_set s && not (is_staged s && in_ro))
     byte-is = rw (space-in-set count first last c.ok s n k c.there c.low c.top, c.side) refl
 
@@ -82,12 +83,12 @@ module _ (count : ℕ) (first last : List ℕ) (size s k : ℕ) (h : sized count
         → bank_order (read_of count first last) size rest ≡ refuses (plain 10)
     byte-10 x rest t = bank-order-accepted count first last c.ok size rest l ∙ t (byte-is ∙ x)
 
-    pub byte-small : (o ≤ k) × (k < 256) × (parts < 16) × (width < 16)
+    pub byte-small : (f.offset ≤ k) × (k < 256) × (f.parts < 16) × (f.width < 16)
     byte-small =
-        let z : (entry m n).offset ≡ o = c.offset-is in
+        let z : (entry m n).offset ≡ f.offset = c.offset-is in
         (omega (arith, c.low), omega (arith, c.top, entry-fits count first last c.ok n c.there), rw (← c.parts-is) (parts-few (entry m n)), rw (← c.width-is) (width-narrow (entry m n)))
 
-    pub byte-has : (is_set s && not (is_staged s && in_ro)) ≡ true → Reached count first last size s k (ltb (k - o) (parts * width))
+    pub byte-has : (is_set s && not (is_staged s && in_ro)) ≡ true → Reached count first last size s k (ltb (k - f.offset) (f.parts * f.width))
     byte-has x =
         let (a, b) = and₂ (is_set s) (not (is_staged s && in_ro)) (from-true x) in
         let (a', d) = and₂ (is_set s) (ltb k (length_of m s)) (from-true (byte-is ∙ x)) in

@@ -12,11 +12,11 @@ use mir.Val.{bool_byte}
 use Rattle.rules.specs.Numbers.{bit_of}
 use Rattle.rules.specs.Descriptor.{is_app, has_app}
 use Rattle.rules.specs.Refuse.{chooses}
-use Rattle.rules.specs.Bank.{Bank, app_sel_in}
 use Rattle.rules.proofs.Basics.Tests.{and₂, from-true, and-yes, or-yes}
 use Rattle.descriptor.proofs.Bits.{and-bit, or-bit}
-use Rattle.control_set.specs.declared.plan.Chosen.{Chosen}
-use Rattle.control_set.specs.Plan.{Served, copies_by, Wanted, has_one_of}
+use Rattle.control_set.specs.declared.chosen.Chosen.{Chosen}
+use Rattle.control_set.specs.Lanes.{NoLane}
+use Rattle.control_set.specs.Chosen.{app_of, lacks_by, copies_by, Wanted, has_one_of}
 
 -- bit a of a mask moved up by one bit is its bit a − 1
 moved-bit : (mask a : ℕ) → 1 ≤ a → 2 * mask / 2 ^ a ≡ mask / 2 ^ (a - 1)
@@ -33,51 +33,52 @@ moved-one true n h q =
     rw (one-mul (2 ^ n), mod-eq_of_lt s, div_self (pow_pos n)) refl
 moved-one false n h q = let o : ◌≡◌ {A = ℕ} 0 1 = cc in absurd (omega arith)
 
-module _ (c : Chosen) (b : Bank) (v : Served c b) (i : ℕ) (l : 1 ≤ i) (u : i ≤ 8) where
-  app-in : (t : Bool) → is_app c.count (app_sel_in b c.set i) ≡ t → not t ≡ false
-      → (is_app c.count (app_sel_in b c.set i) ≡ true) × (1 ≤ app_sel_in b c.set i) × (app_sel_in b c.set i < 2 ^ 4)
+module _ (c : Chosen) (v : NoLane (lacks_by c)) (i : ℕ) (l : 1 ≤ i) (u : i ≤ 8) where
+  app-in : (t : Bool) → is_app c.desc.count (app_of c i) ≡ t → not t ≡ false
+      → (is_app c.desc.count (app_of c i) ≡ true) × (1 ≤ app_of c i) × (app_of c i < 2 ^ 4)
   app-in true q z =
-      let (x, y) = and₂ (leb 1 (app_sel_in b c.set i)) (leb (app_sel_in b c.set i) c.count) (from-true q) in
-      (q, leb→le 1 _ x, omega (arith, leb→le _ c.count y, v.asked.count))
+      let (x, y) = and₂ (leb 1 (app_of c i)) (leb (app_of c i) c.desc.count) (from-true q) in
+      (q, leb→le 1 _ x, omega (arith, leb→le _ c.desc.count y, c.asked.count))
   app-in false q z = let o : ◌≡◌ {A = ℕ} 0 1 = cc in absurd (omega arith)
 
   -- a chosen lane's AppSel
-  pub app-chosen : chooses c.lanes i ≡ true → (is_app c.count (app_sel_in b c.set i) ≡ true) × (1 ≤ app_sel_in b c.set i) × (app_sel_in b c.set i < 2 ^ 4)
-  app-chosen q = app-in _ refl (rw q at (v.apps i l u))
+  pub app-chosen : chooses c.lanes i ≡ true → (is_app c.desc.count (app_of c i) ≡ true) × (1 ≤ app_of c i) × (app_of c i < 2 ^ 4)
+  unfolding lacks_by
+  app-chosen q = app-in _ refl (rw q at (v i l u))
 
-  module _ (apps : ℕ) (w : Wanted 9 c b apps) where
+  module _ (apps : ℕ) (w : Wanted 9 c apps) where
     -- those of the wanted AppSels that an entry has: their lanes are copied
-    pub own-is : (mask : ℕ) → has_one_of c (bit_and (2 * mask) apps) b i ≡ copies_by c mask b i
+    pub own-is : (mask : ℕ) → has_one_of c (bit_and (2 * mask) apps) i ≡ copies_by c mask i
     own-is mask = go (chooses c.lanes i) refl
       where
-        go : (t : Bool) → t ≡ chooses c.lanes i → (t && bit_of (bit_and (2 * mask) apps) (app_sel_in b c.set i)) ≡ (t && has_app c.count mask (app_sel_in b c.set i))
+        go : (t : Bool) → t ≡ chooses c.lanes i → (t && bit_of (bit_and (2 * mask) apps) (app_of c i)) ≡ (t && has_app c.desc.count mask (app_of c i))
         go false q = refl
         go true q =
             let (is, low, top) = app-chosen (sym q) in
-            and-bit (2 * mask) apps (app_sel_in b c.set i)
-            ∙ rw (w i l (omega arith) (sym q), and-yes (bit_of (2 * mask) (app_sel_in b c.set i)), is, moved-bit mask (app_sel_in b c.set i) low) refl
+            and-bit (2 * mask) apps (app_of c i)
+            ∙ rw (w i l (omega arith) (sym q), and-yes (bit_of (2 * mask) (app_of c i)), is, moved-bit mask (app_of c i) low) refl
 
     -- all of them: every chosen lane has one
-    pub all-have : chooses c.lanes i ≡ has_one_of c apps b i
+    pub all-have : chooses c.lanes i ≡ has_one_of c apps i
     all-have = go (chooses c.lanes i) refl
       where
-        go : (t : Bool) → t ≡ chooses c.lanes i → t ≡ (t && bit_of apps (app_sel_in b c.set i))
+        go : (t : Bool) → t ≡ chooses c.lanes i → t ≡ (t && bit_of apps (app_of c i))
         go false q = refl
         go true q = sym (w i l (omega arith) (sym q))
 
   -- the AppSel of one lane more
   pub wanted-next :
       (apps : ℕ)
-      → Wanted i c b apps
-      → Wanted (i + 1) c b (bit_or apps (bool_byte (chooses c.lanes i) * 2 ^ (app_sel_in b c.set i % 2 ^ 4) % 2 ^ 64))
-  wanted-next apps w j li ui q = or-bit apps _ (app_sel_in b c.set j) ∙ go (ℕ_discrete j i)
+      → Wanted i c apps
+      → Wanted (i + 1) c (bit_or apps (bool_byte (chooses c.lanes i) * 2 ^ (app_of c i % 2 ^ 4) % 2 ^ 64))
+  wanted-next apps w j li ui q = or-bit apps _ (app_of c j) ∙ go (ℕ_discrete j i)
     where
       more : ℕ
-      more = bool_byte (chooses c.lanes i) * 2 ^ (app_sel_in b c.set i % 2 ^ 4) % 2 ^ 64
+      more = bool_byte (chooses c.lanes i) * 2 ^ (app_of c i % 2 ^ 4) % 2 ^ 64
 
-      here : chooses c.lanes i ≡ true → bit_of (bool_byte (chooses c.lanes i) * 2 ^ (app_sel_in b c.set i % 2 ^ 4) % 2 ^ 64) (app_sel_in b c.set i) ≡ true
-      here r = let k = (app-chosen r).2 in rw (mod-eq_of_lt k) (moved-one (chooses c.lanes i) (app_sel_in b c.set i) k r)
+      here : chooses c.lanes i ≡ true → bit_of (bool_byte (chooses c.lanes i) * 2 ^ (app_of c i % 2 ^ 4) % 2 ^ 64) (app_of c i) ≡ true
+      here r = let k = (app-chosen r).2 in rw (mod-eq_of_lt k) (moved-one (chooses c.lanes i) (app_of c i) k r)
 
-      go : Dec (j ≡ i) → (bit_of apps (app_sel_in b c.set j) || bit_of more (app_sel_in b c.set j)) ≡ true
-      go (yes e) = rw (e, here (rw e at q)) (or-yes (bit_of apps (app_sel_in b c.set i)))
+      go : Dec (j ≡ i) → (bit_of apps (app_of c j) || bit_of more (app_of c j)) ≡ true
+      go (yes e) = rw (e, here (rw e at q)) (or-yes (bit_of apps (app_of c i)))
       go (no ne) = rw (w j li (omega arith) q) refl

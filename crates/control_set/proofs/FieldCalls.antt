@@ -10,7 +10,7 @@ use lib.ListN.{length}
 use Rattle.std.specs.Prelude.{Some, None}
 use lib.Dec.{T, ltb, eqb, ltb→lt, eqb→eq}
 use borrow.Author.Tests.{ltb-false, eq-eqb}
-use Rattle.rules.specs.Words.{number}
+use Rattle.rules.specs.Words.{the_field, number}
 use Rattle.rules.specs.declared.Call.{Call}
 use Rattle.rules.specs.declared.Refusal.{Refusal}
 use Rattle.rules.specs.declared.Refusal.TheVariants.{Plain as plain}
@@ -36,7 +36,7 @@ use Rattle.descriptor.proofs.Finds.{side-is, offset-is, width-is, signed-is, ste
 use Rattle.control_set.specs.Field.{Spot, InBits, bits_at, with_bits}
 use Rattle.control_set.specs.Values.{number_by}
 use Rattle.control_set.specs.Gate.{Opened, Entered, FieldGated}
-use Rattle.control_set.proofs.Spots.{spot-room, spot-field, bits-at-lt, number-field, with-number}
+use Rattle.control_set.proofs.Spots.{width-room, spot-field, bits-at-lt, number-field, with-number}
 use Rattle.control_set.proofs.Signs.{accepted-byte}
 use Rattle.control_set.proofs.Values.{number-named}
 
@@ -87,28 +87,28 @@ module _ (count : ℕ) (first last : List ℕ) (b : Bank) {e p i : ℕ} {f : Nam
   has : T (has_field (map_of count first last) e p i)
   has = from-true t.named.has
 
-  pub write-tested : (s : ℕ) (v : ℤ) → exists (map_of count first last) (Call.Write s e p i v) ≡ is_set s
+  pub write-tested : (s : ℕ) (v : ℤ) → exists (map_of count first last) (Call.Write s (the_field e p i) v) ≡ is_set s
   unfolding exists
   write-tested s v = rw t.named.has (and-yes (is_set s))
 
-  pub read-tested : (s : ℕ) → exists (map_of count first last) (Call.Read s e p i) ≡ is_set s
+  pub read-tested : (s : ℕ) → exists (map_of count first last) (Call.Read s (the_field e p i)) ≡ is_set s
   unfolding exists
   read-tested s = rw t.named.has (and-yes (is_set s))
 
-  pub publish-tested : (v : ℤ) → exists (map_of count first last) (Call.Publish e p i v) ≡ true
+  pub publish-tested : (v : ℤ) → exists (map_of count first last) (Call.Publish (the_field e p i) v) ≡ true
   unfolding exists
   publish-tested v = t.named.has
 
   -- 11
-  pub write-directed : (s : ℕ) (v : ℤ) → misdirected (map_of count first last) (Call.Write s e p i v) ≡ (eqb s 2 || f.ro)
+  pub write-directed : (s : ℕ) (v : ℤ) → misdirected (map_of count first last) (Call.Write s (the_field e p i) v) ≡ (eqb s 2 || f.ro)
   unfolding misdirected
   write-directed s v = rw (side-is count first last t.named) refl
 
-  pub read-directed : (s : ℕ) → misdirected (map_of count first last) (Call.Read s e p i) ≡ (is_staged s && f.ro)
+  pub read-directed : (s : ℕ) → misdirected (map_of count first last) (Call.Read s (the_field e p i)) ≡ (is_staged s && f.ro)
   unfolding misdirected
   read-directed s = rw (side-is count first last t.named) refl
 
-  pub publish-directed : (v : ℤ) → misdirected (map_of count first last) (Call.Publish e p i v) ≡ not f.ro
+  pub publish-directed : (v : ℤ) → misdirected (map_of count first last) (Call.Publish (the_field e p i) v) ≡ not f.ro
   unfolding misdirected
   publish-directed v = rw (side-is count first last t.named) (twice (is_rw (map_of count first last) e))
     where
@@ -144,21 +144,21 @@ module _ (count : ℕ) (first last : List ℕ) (b : Bank) {e p i : ℕ} {f : Nam
   pub publish-there : Field (map_of count first last) 2 e p i
   publish-there = field-there 2 (named-has-bytes 2 (omega arith)) (active-held n e p i has)
 
-  pub spot-there : {s : ℕ} → Field (map_of count first last) s e p i → Spot b s f.offset p f.width i
-  spot-there {s} x = rw (offset-is count first last t.named) (spot-field n b s e p i (entry n e) refl f.width (width-is count first last t.named) good x t.size-is)
+  pub spot-there : {s : ℕ} → Field (map_of count first last) s e p i → Spot b s f.fields.offset p f.fields.width i
+  spot-there {s} x = rw (offset-is count first last t.named) (spot-field n b s e p i (entry n e) refl f.fields.width (width-is count first last t.named) good x t.size-is)
 
   -- its number, and the bank with a number in it
   pub number-there :
       {s : ℕ}
       → Field (map_of count first last) s e p i
-      → number_by f.signed (bits_at b s f.offset p f.width i) ≡ number_in (map_of count first last) b s e p i
+      → number_by f.signed (bits_at b s f.fields.offset p f.fields.width i) ≡ number_in (map_of count first last) b s e p i
   number-there {s} x =
       rw ((signed-is count first last t.named), (offset-is count first last t.named), (width-is count first last t.named))
       (number-named (entry n e) (bits_at b s (entry n e).offset p (width_of (entry n e)) i) (bits-at-lt b s (entry n e).offset p (width_of (entry n e)) i)
       ∙ number-field n b s e p i (entry n e) refl (width_of (entry n e)) refl (signed_of (entry n e)) refl)
 
-  pub stored-there : (s : ℕ) (v : ℤ) → with_bits b s f.offset p f.width i (to_bits f.width v) ≡ with_number (map_of count first last) b s e p i v
-  stored-there s v = rw (offset-is count first last t.named) (with-number n b s e p i (entry n e) refl f.width (width-is count first last t.named) v)
+  pub stored-there : (s : ℕ) (v : ℤ) → with_bits b s f.fields.offset p f.fields.width i (to_bits f.fields.width v) ≡ with_number (map_of count first last) b s e p i v
+  stored-there s v = rw (offset-is count first last t.named) (with-number n b s e p i (entry n e) refl f.fields.width (width-is count first last t.named) v)
 
   -- an accepted value has the field's bits
   pub value-bits :
@@ -166,11 +166,12 @@ module _ (count : ℕ) (first last : List ℕ) (b : Bank) {e p i : ℕ} {f : Nam
       → Field (map_of count first last) s e p i
       → (v : ℤ)
       → accepted_by f v ≡ true
-      → InBits 8 v × (to_bits 8 v ≡ to_bits f.width v) × (to_bits f.width v < 2 ^ f.width)
+      → InBits 8 v × (to_bits 8 v ≡ to_bits f.fields.width v) × (to_bits f.fields.width v < 2 ^ f.fields.width)
   value-bits x v h =
-      let r = spot-room (spot-there x) in
+      let k = spot-there x in
+      let r = width-room f.fields.width i k.whole k.low in
       rw (width-is count first last t.named)
-      (accepted-byte (entry n e) v (rw (width-is count first last t.named) at (spot-there x).whole) (rw (width-is count first last t.named) at r.some) (from-true (sym (accepts-is v) ∙ h)))
+      (accepted-byte (entry n e) v (rw (width-is count first last t.named) at k.whole) (rw (width-is count first last t.named) at r.some) (from-true (sym (accepts-is v) ∙ h)))
 
 -- refused by the gate
 module _ (count : ℕ) (first last : List ℕ) (b : Bank) (e p i : ℕ) where
@@ -183,15 +184,15 @@ module _ (count : ℕ) (first last : List ℕ) (b : Bank) (e p i : ℕ) where
   call-unfound c away r h = call-refused count first last c b r (h _ λ l. judge-10 (map_of count first last) c _ (away l))
 
   module _ (l : has_field (map_of count first last) e p i ≡ false) where
-    pub no-write : (s : ℕ) (v : ℤ) → exists (map_of count first last) (Call.Write s e p i v) ≡ false
+    pub no-write : (s : ℕ) (v : ℤ) → exists (map_of count first last) (Call.Write s (the_field e p i) v) ≡ false
     unfolding exists
     no-write s v = rw l (and-no (is_set s))
 
-    pub no-read : (s : ℕ) → exists (map_of count first last) (Call.Read s e p i) ≡ false
+    pub no-read : (s : ℕ) → exists (map_of count first last) (Call.Read s (the_field e p i)) ≡ false
     unfolding exists
     no-read s = rw l (and-no (is_set s))
 
-    pub no-publish : (v : ℤ) → exists (map_of count first last) (Call.Publish e p i v) ≡ false
+    pub no-publish : (v : ℤ) → exists (map_of count first last) (Call.Publish (the_field e p i) v) ≡ false
     unfolding exists
     no-publish v = l
 
@@ -234,20 +235,16 @@ module _ (count : ℕ) (first last : List ℕ) (b : Bank) (e i : ℕ) where
       is-12 : (entry (map_of count first last) e).id ≡ 0x12
       is-12 = (step-some count first last t.named k h).0
 
-      width-12 : f.width ≡ 8
-      unfolding row_of width_of
-      width-12 = width-is count first last t.named ∙ ap (λ (j : ℕ). (row_of j).width) is-12
-
       signed-12 : f.signed ≡ true
       unfolding row_of signed_of
       signed-12 = signed-is count first last t.named ∙ ap (λ (j : ℕ). (row_of j).signed) is-12
 
-      pub weight-spot : Spot b 2 f.offset 0 8 i
-      weight-spot = rw width-12 at (spot-there count first last b t (publish-there count first last b t))
+      pub weight-spot : Spot b 2 f.fields.offset 0 f.fields.width i
+      weight-spot = spot-there count first last b t (publish-there count first last b t)
 
-      pub weight-is : number (weight_of k (number_by true (bits_at b 2 f.offset 0 8 i))) ≡ weight_call count first last b e i
+      pub weight-is : number (weight_of k (number_by true (bits_at b 2 f.fields.offset 0 f.fields.width i))) ≡ weight_call count first last b e i
       unfolding weight_call
       weight-is =
-          let z : number_by true (bits_at b 2 f.offset 0 8 i) ≡ number_in (map_of count first last) b 2 e 0 i
-          = rw (signed-12, width-12) at (number-there count first last b t (publish-there count first last b t)) in
+          let z : number_by true (bits_at b 2 f.fields.offset 0 f.fields.width i) ≡ number_in (map_of count first last) b 2 e 0 i
+          = rw signed-12 at (number-there count first last b t (publish-there count first last b t)) in
           rw (order, eq-eqb _ 0x12 is-12, (step-some count first last t.named k h).1) (ap (λ v. number (weight_of (entry (map_of count first last) e).step v)) z)

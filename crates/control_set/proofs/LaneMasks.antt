@@ -1,5 +1,7 @@
 -- Masks of lanes, bit by bit, and their bits spread over a part.
-use mathlib.Core.Path.{◌≡◌, refl, ap, ap₂, ◌∙◌}
+use Rattle.std.specs.Prelude.{Result, Ok, Err}
+use Rattle.std.specs.Coded.{×_prop, le_prop}
+use mathlib.Core.Path.{◌≡◌, refl, sym, ap, ap₂, ◌∙◌, subst}
 use mathlib.Core.Logic.{◌≢◌, inr}
 use mathlib.Core.Bool.{Bool, true, false, ◌&&◌, ◌||◌, cond}
 use mathlib.Core.List.{List, [], ◌∷◌, ◌++◌, map}
@@ -17,16 +19,26 @@ use lib.Pow.{pow_pos, pow-add, high, low, shl_exact, shr-shr}
 use lib.Count.{count_trailing_zeros}
 use Rattle.rules.specs.Numbers.{cut, any, bit_of, lowest}
 use Rattle.rules.specs.Place.{lane_byte, lane_bit, Width}
-use Rattle.rules.specs.Refuse.{chooses}
+use Rattle.rules.specs.declared.Refusal.{Refusal}
+use Rattle.rules.specs.Refuse.{passes, chooses, at_lowest}
 use Rattle.rules.specs.Bank.{merge}
-use Rattle.rules.proofs.Basics.Any.{lowest-ext}
+use Rattle.rules.proofs.Apply.Plans.{lowest-same}
 use Rattle.rules.proofs.Basics.Digits.{cut-lt, cut-merge, cut-merge-other}
 use Rattle.rules.proofs.Basics.Ids.{below, below-at}
 use Rattle.rules.proofs.Basics.Tests.{and₂}
 use Rattle.rules.proofs.Place.Lanes.{lane-room}
 use Rattle.descriptor.proofs.Bits.{and-bit, or-bit}
-use Rattle.control_set.specs.Lanes.{Lanes, NoLane, Spreads, SpreadsAll}
+use Rattle.control_set.specs.declared.lanes.Lane.{Lane}
+use Rattle.control_set.specs.declared.lanes.Spread.{Spread}
+use Rattle.control_set.specs.Lanes.{Lanes, NoLane, AtLowest, Spreads, SpreadsAll}
 use Rattle.control_set.proofs.Masks.{cut-cut}
+
+-- a lane is its number
+same-lane : (i k : Lane) → i.number ≡ k.number → i ≡ k
+same-lane i k e =
+    subst (λ (n : ℕ). (r : (1 ≤ n) × (n ≤ 8)) → i ≡ record { number = n; real = r }) e
+    (λ r. ap (λ (x : (1 ≤ i.number) × (i.number ≤ 8)). record { number = i.number; real = x }) (×_prop le_prop le_prop i.real r))
+    k.real
 
 pub bit-lt : (v : Bool) → cond v 1 0 < 2 ^ 1
 bit-lt true = omega arith
@@ -38,21 +50,21 @@ bit-is false = refl
 
 -- what holds of each lane below k and whether it is in a mask, and of k by a test, holds of the mask with k by that test
 pub lanes-next :
-    (P : ℕ → Bool → Type 0) (k lanes : ℕ) (v : Bool)
-    → ((i : ℕ) → 1 ≤ i → i < k → P i (chooses lanes i))
-    → 1 ≤ k
+    (P : Lane → Bool → Type 0) (k : Lane) (lanes : ℕ) (v : Bool)
+    → ((i : Lane) → i.number < k.number → P i (chooses lanes i.number))
     → P k v
-    → (i : ℕ) → 1 ≤ i → i < k + 1 → P i (chooses (merge lanes (k - 1) 1 (cond v 1 0)) i)
-lanes-next P k lanes v h l q i li ui = go (ℕ_discrete i k)
+    → (i : Lane) → i.number < k.number + 1 → P i (chooses (merge lanes (k.number - 1) 1 (cond v 1 0)) i.number)
+lanes-next P k lanes v h q i u = go (ℕ_discrete i.number k.number)
   where
-    go : Dec (i ≡ k) → P i (chooses (merge lanes (k - 1) 1 (cond v 1 0)) i)
+    go : Dec (i.number ≡ k.number) → P i (chooses (merge lanes (k.number - 1) 1 (cond v 1 0)) i.number)
     go (yes e) =
-        let r : chooses (merge lanes (k - 1) 1 (cond v 1 0)) k ≡ v = ap (λ n. eqb n 1) (cut-merge lanes (k - 1) 1 (cond v 1 0) (bit-lt v)) ∙ bit-is v in
-        rw (e, r) q
+        let r : chooses (merge lanes (k.number - 1) 1 (cond v 1 0)) k.number ≡ v
+        = ap (λ n. eqb n 1) (cut-merge lanes (k.number - 1) 1 (cond v 1 0) (bit-lt v)) ∙ bit-is v in
+        rw (same-lane i k e, r) q
     go (no ne) =
-        let r : chooses (merge lanes (k - 1) 1 (cond v 1 0)) i ≡ chooses lanes i
-        = ap (λ n. eqb n 1) (cut-merge-other lanes (k - 1) 1 (cond v 1 0) (bit-lt v) (i - 1) 1 (inr (omega arith))) in
-        rw r (h i li (omega arith))
+        let r : chooses (merge lanes (k.number - 1) 1 (cond v 1 0)) i.number ≡ chooses lanes i.number
+        = ap (λ n. eqb n 1) (cut-merge-other lanes (k.number - 1) 1 (cond v 1 0) (bit-lt v) (i.number - 1) 1 (inr (omega (arith, i.real, k.real)))) in
+        rw r (h i (omega arith))
 
 -- the lanes of both masks, and of one of them
 module _ {f g : ℕ → Bool} (a b : ℕ) (p : Lanes 9 f a) (q : Lanes 9 g b) where
@@ -77,22 +89,13 @@ pub lanes-zero : (i : ℕ) → chooses 0 i ≡ false
 lanes-zero i = rw (zero-div (2 ^ (i - 1))) refl
 
 -- the lowest lane
-pub lanes-lowest : (f : ℕ → Bool) (lanes : ℕ) → Lanes 9 f lanes → lowest 8 1 (chooses lanes) ≡ lowest 8 1 f
-lanes-lowest f lanes h = lowest-ext 8 1 (chooses lanes) f (λ j l u. h j l u)
+pub lanes-at-lowest : (n lanes : ℕ) (f : ℕ → Bool) (r : Result Unit Refusal) → Lanes 9 f lanes → AtLowest n (chooses lanes) r → AtLowest n f r
+lanes-at-lowest n lanes f (Ok _) h z = λ i l u. sym (h i l (omega arith)) ∙ z i l u
+lanes-at-lowest n lanes f (Err r) h z = lowest-same n f (chooses lanes) (λ i l u. sym (h i l (omega arith))) ∙ z
 
-lowest-none : (n i : ℕ) (f : ℕ → Bool) → 0 < i → lowest n i f ≡ 0 → (j : ℕ) → i ≤ j → j < i + n → f j ≡ false
-unfolding lowest
-lowest-none zero i f s h j l u = absurd (omega arith)
-lowest-none (suc n) i f s h j l u =
-    go (f i) refl (ℕ_discrete j i) (λ q ne. lowest-none n (suc i) f (omega arith) q j (omega arith) (omega arith))
-  where
-    go : (t : Bool) → f i ≡ t → Dec (j ≡ i) → (lowest n (suc i) f ≡ 0 → j ≢ i → f j ≡ false) → f j ≡ false
-    go true e d r = let z : i ≡ 0 = rw e at h in absurd (omega arith)
-    go false e (yes q) r = rw q e
-    go false e (no ne) r = r (rw e at h) ne
-
-pub lanes-clear : (f : ℕ → Bool) → lowest 8 1 f ≡ 0 → NoLane f
-lanes-clear f h i l u = lowest-none 8 1 f (omega arith) h i l (omega arith)
+pub no-lane : (n : ℕ) (f : ℕ → Bool) → NoLane f → at_lowest n f ≡ passes
+unfolding lowest at_lowest
+no-lane n f h = lowest-same n f (λ _. false) h ∙ refl
 
 -- it is the place of the mask's lowest 1: a test that computes, of each mask but 0
 abbrev lowest_at : ℕ → Bool
@@ -105,10 +108,6 @@ lowest-by-test = tt
 pub lowest-trailing : (lanes : ℕ) → lanes ≢ 0 → lanes < 256 → lowest 8 1 (chooses lanes) ≡ suc (count_trailing_zeros 8 lanes)
 lowest-trailing zero ne l = absurd (ne refl)
 lowest-trailing (suc m) ne l = eqb→eq _ _ (below-at 255 lowest_at lowest-by-test m (omega arith))
-
-pub lowest-zero : lowest 8 1 (chooses 0) ≡ 0
-unfolding lowest
-lowest-zero = refl
 
 -- a lane's field, by the byte of the part that it lies in
 pub spread-lane :
@@ -159,16 +158,16 @@ record Half (w lanes bits : ℕ) : Type 0 where
 abbrev in_lane : ℕ → ℕ → ℕ → ℕ → Bool
 in_lane w lanes bits k = eqb (cut bits (k * w) w) (cond (bit_of lanes k) (2 ^ w - 1) 0)
 
-abbrev in_half : ℕ → List ℕ → ℕ → Bool
-in_half w t n = ltb (get_or t n 0) (2 ^ (4 * w)) && below 4 (in_lane w n (get_or t n 0))
+abbrev in_half : ℕ → (ℕ → ℕ) → ℕ → Bool
+in_half w t n = ltb (t n) (2 ^ (4 * w)) && below 4 (in_lane w n (t n))
 
-abbrev pub halves : ℕ → List ℕ → Bool
+abbrev pub halves : ℕ → (ℕ → ℕ) → Bool
 halves w t = below 16 (in_half w t)
 
-half-at : (w : ℕ) (t : List ℕ) → T (halves w t) → (n : ℕ) → n < 16 → Half w n (get_or t n 0)
+half-at : (w : ℕ) (t : ℕ → ℕ) → T (halves w t) → (n : ℕ) → n < 16 → Half w n (t n)
 half-at w t ok n l =
     let (room, lane) = and₂ _ _ (below-at 16 (in_half w t) ok n l) in
-    record { lane = λ k u. eqb→eq _ _ (below-at 4 (in_lane w n (get_or t n 0)) lane k u); room = ltb→lt _ _ room }
+    record { lane = λ k u. eqb→eq _ _ (below-at 4 (in_lane w n (t n)) lane k u); room = ltb→lt _ _ room }
 
 low-cut : (x n t w : ℕ) → t + w ≤ n → cut (x % 2 ^ n) t w ≡ cut x t w
 low-cut x n t w h = rw (zero-add t, div-one x) at (cut-cut x 0 n t w h)
@@ -191,17 +190,23 @@ two-halves {w} {lanes} {a} {b} p q = record { lane = λ i l u. go i l u (dec_lt 
         (q.lane (i - 5) (omega arith))
 
 -- as `spread_all` takes them from a table
-module _ (w : ℕ) (t : List ℕ) (small : w ≤ 8) (ok : T (halves w t)) (lanes : ℕ) (h : lanes < 256) where
-  pub spreads-table : Spreads w lanes (get_or t (lanes % 16) 0 + get_or t (lanes / 16) 0 * 2 ^ (4 * w) % 2 ^ 64)
+module _ (w : ℕ) (t : ℕ → ℕ) (small : w ≤ 8) (ok : T (halves w t)) (lanes : ℕ) (h : lanes < 256) where
+  pub spreads-table : Spreads w lanes (t (lanes % 16) + t (lanes / 16) * 2 ^ (4 * w) % 2 ^ 64)
   spreads-table =
       let q = half-at w t ok (lanes / 16) (omega arith) in
-      rw (shl_exact (4 * w) (4 * w) 64 q.room (omega arith), add_comm (get_or t (lanes % 16) 0) _)
+      rw (shl_exact (4 * w) (4 * w) 64 q.room (omega arith), add_comm (t (lanes % 16)) _)
       (two-halves (half-at w t ok (lanes % 16) (omega arith)) q)
 
--- the tables, k lanes of w bits: each lane doubles them
-abbrev pub table : ℕ → ℕ → List ℕ
-table w zero = 0 ∷ []
-table w (suc k) = table w k ++ map (λ x. (2 ^ w - 1) * 2 ^ (k * w) + x) (table w k)
+-- the rows, of k lanes: each lane doubles them
+abbrev more : ℕ → ℕ → ℕ → ℕ
+more k w bits = (2 ^ w - 1) * 2 ^ (k * w) + bits
+
+abbrev rows : ℕ → List Spread
+rows zero = (0, 0, 0) ∷ []
+rows (suc k) = rows k ++ map (λ x. (more k 2 x.0, more k 4 x.1, more k 8 x.2)) (rows k)
+
+abbrev pub row : ℕ → Spread
+row n = get_or (rows 4) n (0, 0, 0)
 
 -- by width: W is 1, 2, 4 or 8
 widths : (P : ℕ → Type 0) → P 1 → P 2 → P 4 → P 8 → (w n : ℕ) → n * w ≡ 8 → P w
@@ -216,6 +221,12 @@ widths P a b c d (suc (suc (suc (suc (suc (suc (suc zero))))))) n e = absurd (om
 widths P a b c d (suc (suc (suc (suc (suc (suc (suc (suc zero)))))))) n e = d
 widths P a b c d (suc (suc (suc (suc (suc (suc (suc (suc (suc w))))))))) zero e = absurd (omega (arith, zero-mul (9 + w)))
 widths P a b c d (suc (suc (suc (suc (suc (suc (suc (suc (suc w))))))))) (suc n) e = absurd (omega (arith, suc-mul n (9 + w)))
+
+pub width-whole : (w : ℕ) → Width w → 8 % w ≡ 0
+width-whole w x = widths (λ n. 8 % n ≡ 0) refl refl refl refl w x.lanes x.fills
+
+pub whole-width : (w : ℕ) → 8 % w ≡ 0 → Width w
+whole-width w h = record { lanes = 8 / w; fills = omega (arith, div-add-mod' 8 w) }
 
 module _ {lanes : ℕ} where
   put : (w v : ℕ) (l : List ℕ) → w < length l → Spreads w lanes v → Spreads w lanes (get_or (set l w v) w 0)

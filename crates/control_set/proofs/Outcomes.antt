@@ -9,6 +9,7 @@ use Rattle.rules.specs.Words.{accepted}
 use Rattle.rules.specs.declared.Refusal.{Refusal}
 use Rattle.rules.specs.declared.Refusal.TheVariants.{Plain as plain}
 use Rattle.rules.specs.declared.Call.{Call}
+use Rattle.rules.specs.declared.Field.{Field}
 use Rattle.rules.specs.declared.Answer.{Answer}
 use Rattle.rules.specs.declared.Loaded.{Loaded}
 use Rattle.rules.specs.Layout.{bank_size}
@@ -75,9 +76,9 @@ module _ (count : ℕ) (first last : List ℕ) (b : Bank) where
   unfolding bank_call
   kept c a h = rw h (decided (bank_order (read_of count first last) (length b) (judge (map_of count first last) c ++ bank_plan (map_of count first last) c b)) a)
 
-  pub read-keeps : (s e p i : ℕ) → b ≡ (bank_call count first last (Call.Read s e p i) b).1
+  pub read-keeps : (s : ℕ) (f : Field) → b ≡ (bank_call count first last (Call.Read s f) b).1
   unfolding bank_does
-  read-keeps s e p i = kept (Call.Read s e p i) _ refl
+  read-keeps s f = kept (Call.Read s f) _ refl
 
   pub byte-read-keeps : (s k : ℕ) → b ≡ (bank_call count first last (Call.ByteRead s k) b).1
   unfolding bank_does

@@ -17,20 +17,19 @@ use lib.Seq.{get_or-take, get_or-drop}
 use Rattle.std.specs.Int.{w64, to_le_bytes}
 use Rattle.std.proofs.lemmas.List.{get_or_append_left, get_or-append_right}
 use Rattle.rules.specs.Numbers.{cut, any}
-use Rattle.rules.specs.Place.{lane_byte, lane_bit, Width}
+use Rattle.rules.specs.Place.{lane_byte, lane_bit, Width, parts_of, width_of}
 use Rattle.rules.specs.Refuse.{chooses}
-use Rattle.rules.specs.Bank.{Bank, app_sel_in}
 use Rattle.rules.proofs.Basics.Digits.{cut-lt}
 use Rattle.rules.proofs.Basics.Tests.{and-no}
 use Rattle.rules.proofs.Place.Lanes.{lane-byte-lt}
-use Rattle.control_set.specs.declared.plan.Chosen.{Chosen}
+use Rattle.control_set.specs.declared.chosen.Chosen.{Chosen}
 use Rattle.control_set.specs.declared.plan.Last.{Last}
 use Rattle.rules.specs.declared.Entry.{Entry}
-use Rattle.control_set.specs.declared.judge.Fields.{Fields}
 use Rattle.control_set.specs.Field.{byte_in}
 use Rattle.control_set.specs.Lanes.{Lanes, Spreads}
-use Rattle.control_set.specs.Plan.{fields_of, Arranged, copies_by, has_one_of, refused_in, refused_among, AllBytes, Cached, Laid, Parts, Planned}
-use Rattle.control_set.proofs.LaneMasks.{spread-lane, spreads-all-zero, lanes-zero, lanes-and, lanes-or}
+use Rattle.control_set.specs.Chosen.{app_of, copies_by, has_one_of}
+use Rattle.control_set.specs.Plan.{end_of, Arranged, refused_in, refused_among, AllBytes, Cached, Laid, Parts, Planned}
+use Rattle.control_set.proofs.LaneMasks.{whole-width, spread-lane, spreads-all-zero, lanes-zero, lanes-and, lanes-or}
 
 or-false : (t : Bool) → (t || false) ≡ t
 or-false true = refl
@@ -97,13 +96,13 @@ past-end w bits j h l = let z : bits / 2 ^ (8 * j) ≡ 0 = div-eq_of_lt (omega (
 
 -- part by part
 pub parts-next :
-    {n : ℕ} {f : Fields} {bits : ℕ} {old new after : List ℕ}
-    → f.width ≤ 8
-    → bits < 2 ^ (8 * f.width)
-    → Parts n f bits old new
-    → Laid 8 (f.offset + n * f.width) bits new after
-    → Parts (n + 1) f bits old after
-parts-next {n} {f} {bits} {old} {new} {after} w h r l =
+    {n offset w bits : ℕ} {old new after : List ℕ}
+    → w ≤ 8
+    → bits < 2 ^ (8 * w)
+    → Parts n offset w bits old new
+    → Laid 8 (offset + n * w) bits new after
+    → Parts (n + 1) offset w bits old after
+parts-next {n} {offset} {w} {bits} {old} {new} {after} u₈ h r l =
     record {
       size = l.size ∙ r.size;
       small = λ b. l.small (r.small b);
@@ -113,33 +112,33 @@ parts-next {n} {f} {bits} {old} {new} {after} w h r l =
     }
   where
     at : ℕ
-    at = f.offset + n * f.width
+    at = offset + n * w
 
-    next : (n + 1) * f.width ≡ n * f.width + f.width
-    next = rw (add-one n) (suc-mul n f.width)
+    next : (n + 1) * w ≡ n * w + w
+    next = rw (add-one n) (suc-mul n w)
 
     p<n : {p : ℕ} → ¬ (p ≡ n) → p < n + 1 → p < n
     p<n ne l = omega arith
 
-    here : (p j : ℕ) → p < n + 1 → j < f.width → Dec (p ≡ n) → get_or after (f.offset + p * f.width + j) 0 ≡ cut bits (8 * j) 8
+    here : (p j : ℕ) → p < n + 1 → j < w → Dec (p ≡ n) → get_or after (offset + p * w + j) 0 ≡ cut bits (8 * j) 8
     here p j hp hj (yes e) = rw e (l.here j (omega arith))
     here p j hp hj (no ne) =
-        let u : p * f.width + j < n * f.width = digits_lt (p<n ne hp) hj in
+        let u : p * w + j < n * w = digits_lt (p<n ne hp) hj in
         l.rest _ (inl (omega arith)) ∙ r.here p j (omega arith) hj
 
-    behind : (k : ℕ) → f.offset + (n + 1) * f.width ≤ k → Dec (k < at + 8) → get_or after k 0 ≡ 0
+    behind : (k : ℕ) → offset + (n + 1) * w ≤ k → Dec (k < at + 8) → get_or after k 0 ≡ 0
     behind k u (yes b) =
         let e : at + (k - at) ≡ k = omega (arith, next) in
-        rw e at (l.here (k - at) (omega (arith, next))) ∙ past-end f.width bits (k - at) h (omega (arith, next))
+        rw e at (l.here (k - at) (omega (arith, next))) ∙ past-end w bits (k - at) h (omega (arith, next))
     behind k u (no b) = l.rest k (inr (omega arith)) ∙ r.behind k (omega (arith, next))
 
 -- entry by entry
-pub planned-none : (c : Chosen) (h : ℕ → Entry) (b : Bank) (plan : List ℕ) → length plan ≡ 264 → ((k : ℕ) → get_or plan k 0 ≡ 0) → Planned c 0 h b plan
-planned-none c h b plan q z = record { size = q; small = λ k. rw (z k) (omega arith); fields = λ e p i he. absurd (omega arith); rest = λ k _. z k }
+pub planned-none : (c : Chosen) (h : ℕ → Entry) (plan : List ℕ) → length plan ≡ 264 → ((k : ℕ) → get_or plan k 0 ≡ 0) → Planned c 0 h plan
+planned-none c h plan q z = record { size = q; small = λ k. rw (z k) (omega arith); fields = λ e p i he. absurd (omega arith); rest = λ k _. z k }
 
-module _ {c : Chosen} {h : ℕ → Entry} {b : Bank} {total n : ℕ} (a : Arranged total h) (hn : n < total) {plan : List ℕ} (r : Planned c n h b plan) where
+module _ {c : Chosen} {h : ℕ → Entry} {total n : ℕ} (a : Arranged total h) (hn : n < total) {plan : List ℕ} (r : Planned c n h plan) where
   -- nothing is planned from the next entry on
-  pub planned-start : (bits : ℕ) → Parts 0 (fields_of (h n)) bits plan plan
+  pub planned-start : (bits : ℕ) → Parts 0 (h n).offset (width_of (h n)) bits plan plan
   planned-start bits =
       record {
         size = refl;
@@ -150,7 +149,7 @@ module _ {c : Chosen} {h : ℕ → Entry} {b : Bank} {total n : ℕ} (a : Arrang
       }
 
   -- an entry without fields
-  pub planned-skip : (fields_of (h n)).parts ≡ 0 → Planned c (n + 1) h b plan
+  pub planned-skip : parts_of (h n) ≡ 0 → Planned c (n + 1) h plan
   planned-skip z =
       record {
         size = r.size;
@@ -159,17 +158,17 @@ module _ {c : Chosen} {h : ℕ → Entry} {b : Bank} {total n : ℕ} (a : Arrang
         rest = λ k out. r.rest k (λ e he. out e (omega arith));
       }
     where
-      fields : (e p i : ℕ) → e < n + 1 → p < (fields_of (h e)).parts → 1 ≤ i → i ≤ 8 → Dec (e ≡ n)
-          → cut (get_or plan (byte_in (fields_of (h e)).offset p (fields_of (h e)).width i) 0) (lane_bit (fields_of (h e)).width i) (fields_of (h e)).width ≡ cond (copies_by c (h e).mask b i) (2 ^ (fields_of (h e)).width - 1) 0
+      fields : (e p i : ℕ) → e < n + 1 → p < parts_of (h e) → 1 ≤ i → i ≤ 8 → Dec (e ≡ n)
+          → cut (get_or plan (byte_in (h e).offset p (width_of (h e)) i) 0) (lane_bit (width_of (h e)) i) (width_of (h e)) ≡ cond (copies_by c (h e).mask i) (2 ^ (width_of (h e)) - 1) 0
       fields e p i he hp l u (yes q) = absurd (omega (arith, rw q at hp))
       fields e p i he hp l u (no ne) = r.fields e p i (omega arith) hp l u
 
   pub planned-next :
       {bits lanes : ℕ} {after : List ℕ}
-      → Spreads (fields_of (h n)).width lanes bits
-      → Lanes 9 (copies_by c (h n).mask b) lanes
-      → Parts (fields_of (h n)).parts (fields_of (h n)) bits plan after
-      → Planned c (n + 1) h b after
+      → Spreads (width_of (h n)) lanes bits
+      → Lanes 9 (copies_by c (h n).mask) lanes
+      → Parts (parts_of (h n)) (h n).offset (width_of (h n)) bits plan after
+      → Planned c (n + 1) h after
   planned-next {bits} {lanes} {after} sp la pa =
       record {
         size = pa.size ∙ r.size;
@@ -178,64 +177,64 @@ module _ {c : Chosen} {h : ℕ → Entry} {b : Bank} {total n : ℕ} (a : Arrang
         rest = λ k out. rest k out (out n (omega arith));
       }
     where
-      inside : (e p i : ℕ) → e < total → p < (fields_of (h e)).parts → 1 ≤ i → i ≤ 8 → byte_in (fields_of (h e)).offset p (fields_of (h e)).width i < (fields_of (h e)).offset + (fields_of (h e)).parts * (fields_of (h e)).width
-      inside e p i he hp l u = let w = (a.spread e he).whole (omega arith) in omega (arith, digits_lt hp (lane-byte-lt (fields_of (h e)).width w i l u))
+      inside : (e p i : ℕ) → e < total → p < parts_of (h e) → 1 ≤ i → i ≤ 8 → byte_in (h e).offset p (width_of (h e)) i < end_of (h e)
+      inside e p i he hp l u = let w = whole-width _ (a.spread e he (omega arith)).whole in omega (arith, digits_lt hp (lane-byte-lt (width_of (h e)) w i l u))
 
-      fields : (e p i : ℕ) → e < n + 1 → p < (fields_of (h e)).parts → 1 ≤ i → i ≤ 8 → Dec (e ≡ n)
-          → cut (get_or after (byte_in (fields_of (h e)).offset p (fields_of (h e)).width i) 0) (lane_bit (fields_of (h e)).width i) (fields_of (h e)).width ≡ cond (copies_by c (h e).mask b i) (2 ^ (fields_of (h e)).width - 1) 0
+      fields : (e p i : ℕ) → e < n + 1 → p < parts_of (h e) → 1 ≤ i → i ≤ 8 → Dec (e ≡ n)
+          → cut (get_or after (byte_in (h e).offset p (width_of (h e)) i) 0) (lane_bit (width_of (h e)) i) (width_of (h e)) ≡ cond (copies_by c (h e).mask i) (2 ^ (width_of (h e)) - 1) 0
       fields e p i he hp l u (yes q) =
-          let hp' : p < (fields_of (h n)).parts = rw q at hp in
-          let w : Width (fields_of (h n)).width = (a.spread n hn).whole (omega arith) in
-          rw (q, pa.here p (lane_byte (fields_of (h n)).width i) hp' (lane-byte-lt (fields_of (h n)).width w i l u), ← la i l (omega arith)) (spread-lane w sp i l u)
+          let hp' : p < parts_of (h n) = rw q at hp in
+          let w : Width (width_of (h n)) = whole-width _ (a.spread n hn (omega arith)).whole in
+          rw (q, pa.here p (lane_byte (width_of (h n)) i) hp' (lane-byte-lt (width_of (h n)) w i l u), ← la i l (omega arith)) (spread-lane w sp i l u)
       fields e p i he hp l u (no ne) =
           let e' : e < n = omega arith in
-          rw (pa.before (byte_in (fields_of (h e)).offset p (fields_of (h e)).width i) (omega (arith, inside e p i (omega arith) hp l u, a.order e n e' hn))) (r.fields e p i e' hp l u)
+          rw (pa.before (byte_in (h e).offset p (width_of (h e)) i) (omega (arith, inside e p i (omega arith) hp l u, a.order e n e' hn))) (r.fields e p i e' hp l u)
 
       rest : (k : ℕ)
-          → ((e : ℕ) → e < n + 1 → (k < (fields_of (h e)).offset) ⊎ ((fields_of (h e)).offset + (fields_of (h e)).parts * (fields_of (h e)).width ≤ k))
-          → (k < (fields_of (h n)).offset) ⊎ ((fields_of (h n)).offset + (fields_of (h n)).parts * (fields_of (h n)).width ≤ k)
+          → ((e : ℕ) → e < n + 1 → (k < (h e).offset) ⊎ (end_of (h e) ≤ k))
+          → (k < (h n).offset) ⊎ (end_of (h n) ≤ k)
           → get_or after k 0 ≡ 0
       rest k out (inl l) = pa.before k l ∙ r.rest k (λ e he. out e (omega arith))
       rest k out (inr l) = pa.behind k l
 
 -- what the entries that are passed make of a plan, of the last AppSels and of the lanes of 14
-pub record Upto (c : Chosen) (h : ℕ → Entry) (b : Bank) (n : ℕ) (plan spreads : List ℕ) (last : Last) (refused : ℕ) : Type 0 where
-  pub cached : Cached c b last spreads
-  pub lanes : Lanes 9 (refused_among c n h b) refused
-  pub planned : Planned c n h b plan
+pub record Upto (c : Chosen) (h : ℕ → Entry) (n : ℕ) (plan spreads : List ℕ) (last : Last) (refused : ℕ) : Type 0 where
+  pub cached : Cached c last spreads
+  pub lanes : Lanes 9 (refused_among c n h) refused
+  pub planned : Planned c n h plan
 
-pub upto-none : (c : Chosen) (h : ℕ → Entry) (b : Bank) (plan spreads : List ℕ) → length spreads ≡ 9 → ((k : ℕ) → get_or spreads k 0 ≡ 0) → Planned c 0 h b plan
-    → Upto c h b 0 plan spreads (record { apps = 0; lanes = 0 }) 0
+pub upto-none : (c : Chosen) (h : ℕ → Entry) (plan spreads : List ℕ) → length spreads ≡ 9 → ((k : ℕ) → get_or spreads k 0 ≡ 0) → Planned c 0 h plan
+    → Upto c h 0 plan spreads (record { apps = 0; lanes = 0 }) 0
 unfolding refused_among any
-upto-none c h b plan spreads l z p =
+upto-none c h plan spreads l z p =
     record {
       cached = record { lanes = λ i _ _. lanes-zero i ∙ sym (no-app i); spread = spreads-all-zero spreads l z };
       lanes = λ i _ _. lanes-zero i;
       planned = p;
     }
   where
-    no-app : (i : ℕ) → has_one_of c 0 b i ≡ false
-    no-app i = rw (zero-div (2 ^ app_sel_in b c.set i)) (and-no (chooses c.lanes i))
+    no-app : (i : ℕ) → has_one_of c 0 i ≡ false
+    no-app i = rw (zero-div (2 ^ app_of c i)) (and-no (chooses c.lanes i))
 
-module _ {c : Chosen} {h : ℕ → Entry} {b : Bank} {total n : ℕ} (a : Arranged total h) (hn : n < total) {plan spreads : List ℕ} {last : Last} {refused : ℕ}
-    (r : Upto c h b n plan spreads last refused) where
-  pub upto-skip : (fields_of (h n)).parts ≡ 0 → Upto c h b (n + 1) plan spreads last refused
+module _ {c : Chosen} {h : ℕ → Entry} {total n : ℕ} (a : Arranged total h) (hn : n < total) {plan spreads : List ℕ} {last : Last} {refused : ℕ}
+    (r : Upto c h n plan spreads last refused) where
+  pub upto-skip : parts_of (h n) ≡ 0 → Upto c h (n + 1) plan spreads last refused
   unfolding refused_among refused_in any
   upto-skip z =
       record {
         cached = r.cached;
-        lanes = λ i l u. r.lanes i l u ∙ rw (add-one n, z, and-no (copies_by c (h n).mask b i)) (sym (or-false _));
+        lanes = λ i l u. r.lanes i l u ∙ rw (add-one n, z, and-no (copies_by c (h n).mask i)) (sym (or-false _));
         planned = planned-skip a hn r.planned z;
       }
 
   pub upto-next :
       {after sp : List ℕ} {own : Last} (lanes : ℕ)
-      → Lanes 9 (copies_by c (h n).mask b) own.lanes
-      → Cached c b own sp
-      → Lanes 9 (refused_in c.set (h n) b) lanes
-      → Width (fields_of (h n)).width
-      → Parts (fields_of (h n)).parts (fields_of (h n)) (get_or sp (fields_of (h n)).width 0) plan after
-      → Upto c h b (n + 1) after sp own (bit_or refused (bit_and own.lanes lanes))
+      → Lanes 9 (copies_by c (h n).mask) own.lanes
+      → Cached c own sp
+      → Lanes 9 (refused_in c.set (h n) c.bank.now) lanes
+      → Width (width_of (h n))
+      → Parts (parts_of (h n)) (h n).offset (width_of (h n)) (get_or sp (width_of (h n)) 0) plan after
+      → Upto c h (n + 1) after sp own (bit_or refused (bit_and own.lanes lanes))
   unfolding refused_among any
   upto-next {after} {sp} {own} lanes co ca la w pa =
       record {

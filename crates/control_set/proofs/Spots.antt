@@ -6,7 +6,7 @@ use lib.IntN.{ℤ}
 use lib.ListN.{length}
 use Rattle.rules.specs.declared.Entry.{Entry}
 use Rattle.rules.specs.Load.{Map}
-use Rattle.rules.specs.Place.{entry, width_of, signed_of, lane_bit, Field}
+use Rattle.rules.specs.Place.{entry, width_of, signed_of, lane_bit, Width, Field}
 use Rattle.rules.specs.Accept.{to_bits, from_bits}
 use Rattle.rules.specs.Layout.{bank_size}
 use Rattle.rules.specs.Bank.{Bank, get_field, put_field, number_in, with_number}
@@ -16,8 +16,8 @@ use Rattle.rules.proofs.Place.AcceptedMap.{GoodMap}
 use Rattle.rules.proofs.Place.Fields.{field-width, in-set}
 use Rattle.control_set.specs.Field.{Room, Spot, bits_at, with_bits}
 
-pub spot-room : {b : Bank} {s offset p w i : ℕ} → Spot b s offset p w i → Room (lane_bit w i) w
-spot-room {b} {s} {offset} {p} {w} {i} h = record { some = width-pos w h.whole; room = lane-room w h.whole i h.low }
+pub width-room : (w i : ℕ) → Width w → 1 ≤ i → Room (lane_bit w i) w
+width-room w i h l = record { some = width-pos w h; room = lane-room w h i l }
 
 pub bits-at-lt : (b : Bank) (s offset p w i : ℕ) → bits_at b s offset p w i < 2 ^ w
 bits-at-lt b s offset p w i = cut-lt _ _ w

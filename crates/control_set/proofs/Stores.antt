@@ -44,7 +44,7 @@ module _ (count : ℕ) (first last : List ℕ) (b : Bank) {e p i : ℕ} {f : Nam
 
       go : (x : Bool) → accepted_by f v ≡ x
           → bank_call count first last c b
-          ≡ (cond x says_yes (Err (plain 12)), cond x (with_bits b s f.offset p f.width i (to_bits f.width v)) b)
+          ≡ (cond x says_yes (Err (plain 12)), cond x (with_bits b s f.fields.offset p f.fields.width i (to_bits f.fields.width v)) b)
       go true y =
           call-done count first last c b (entered-opened count first last b t) h l (tested true y) q
           ∙ d

@@ -24,13 +24,19 @@ pub record Spot (b : Bank) (s offset p w i : ℕ) : Type 0 where
   pub top : i ≤ 8
   pub inside : byte_in offset p w i < 256
 
+-- w bits of a byte, and the bank with other bits there
+abbrev pub bits_in : Bank → ℕ → ℕ → ℕ → ℕ
+bits_in b at bit w = cut (get_or b at 0) bit w
+
+abbrev pub with_bits_in : Bank → ℕ → ℕ → ℕ → ℕ → Bank
+with_bits_in b at bit w v = set b at (merge (get_or b at 0) bit w v)
+
 -- the field's bits, and the bank with other bits in it
 abbrev pub bits_at : Bank → ℕ → ℕ → ℕ → ℕ → ℕ → ℕ
-bits_at b s offset p w i = cut (get_or b (set_start s + byte_in offset p w i) 0) (lane_bit w i) w
+bits_at b s offset p w i = bits_in b (set_start s + byte_in offset p w i) (lane_bit w i) w
 
 abbrev pub with_bits : Bank → ℕ → ℕ → ℕ → ℕ → ℕ → ℕ → Bank
-with_bits b s offset p w i v =
-    set b (set_start s + byte_in offset p w i) (merge (get_or b (set_start s + byte_in offset p w i) 0) (lane_bit w i) w v)
+with_bits b s offset p w i v = with_bits_in b (set_start s + byte_in offset p w i) (lane_bit w i) w v
 
 -- a number that w bits hold, read as a signed or as an unsigned one
 abbrev pub InBits : ℕ → ℤ → Type 0

@@ -1,10 +1,10 @@
 -- The checks 9, 8 and those of the entries, of a call on a bank of a size: refused whatever follows, or past them with the load's numbers.
-use Rattle.std.specs.Prelude.{◌≡◌, Bool, false, ◌&&◌, cond, List, ℕ, ◌%◌, ◌≤◌, ◌<◌, ltb, Result, Ok, Err}
+use Rattle.std.specs.Prelude.{◌≡◌, Bool, true, false, ◌&&◌, cond, List, ℕ, ◌%◌, ◌≤◌, ◌<◌, ltb, Result, Ok, Err}
 use Rattle.rules.specs.Words.{accepted}
 use Rattle.rules.specs.declared.Refusal.{Refusal}
 use Rattle.rules.specs.declared.Loaded.{Loaded}
 use Rattle.rules.specs.declared.Refusal.TheVariants.{Plain as plain}
-use Rattle.rules.specs.Load.{load_of, map_of, read_of}
+use Rattle.rules.specs.Load.{sized, load_of, map_of, read_of}
 use Rattle.rules.specs.Place.{is_set, has_field, length_of}
 use Rattle.rules.specs.Layout.{bank_size}
 use Rattle.rules.specs.Refuse.{Verdict, refuses, first_of, bank_order}
@@ -12,6 +12,11 @@ use Rattle.rules.specs.Bank.{field_bits}
 use Rattle.rules.specs.Demands.{Accepted}
 use Rattle.descriptor.specs.declared.Named.{Named}
 use Rattle.descriptor.specs.Find.{InMap}
+
+-- 9 and 8 are passed, or refused whatever follows
+abbrev pub SizeChecked : ℕ → List ℕ → List ℕ → ℕ → Result Unit Refusal → Type 0
+SizeChecked count rw ro size (Ok u) = (sized count rw ro ≡ true) × (bank_size ≤ size)
+SizeChecked count rw ro size (Err r) = (rest : List Verdict) → bank_order (read_of count rw ro) size rest ≡ refuses r
 
 -- past the gate
 pub record Opened (count : ℕ) (rw ro : List ℕ) (size n k c t : ℕ) : Type 0 where

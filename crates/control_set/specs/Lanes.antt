@@ -1,8 +1,9 @@
 -- Masks of lanes, and their bits spread over a part.
-use Rattle.std.specs.Prelude.{◌≡◌, Bool, false, cond, Option, None, Some, List, ℕ, zero, suc, ◌-◌, ◌*◌, ◌^◌, ◌≤◌, ◌<◌, length, get_or}
+use Rattle.std.specs.Prelude.{◌≡◌, Bool, false, cond, Result, Ok, Err, List, ℕ, ◌-◌, ◌*◌, ◌^◌, ◌≤◌, ◌<◌, length, get_or}
 use Rattle.rules.specs.Numbers.{cut}
 use Rattle.rules.specs.Place.{Width}
-use Rattle.rules.specs.Refuse.{chooses}
+use Rattle.rules.specs.declared.Refusal.{Refusal}
+use Rattle.rules.specs.Refuse.{refuses, chooses, at_lowest}
 
 -- a mask has the lanes below k that f is true of
 abbrev pub Lanes : ℕ → (ℕ → Bool) → ℕ → Type 0
@@ -12,10 +13,10 @@ Lanes k f lanes = (i : ℕ) → 1 ≤ i → i < k → chooses lanes i ≡ f i
 abbrev pub NoLane : (ℕ → Bool) → Type 0
 NoLane f = (i : ℕ) → 1 ≤ i → i ≤ 8 → f i ≡ false
 
--- the lane that a search found, which is 0 where it found none
-abbrev pub lane_at : ℕ → Option ℕ
-lane_at zero = None
-lane_at (suc n) = Some (suc n)
+-- refused with a number at the lowest lane that f is true of, or passed
+abbrev pub AtLowest : ℕ → (ℕ → Bool) → Result Unit Refusal → Type 0
+AtLowest n f (Ok _) = NoLane f
+AtLowest n f (Err r) = at_lowest n f ≡ refuses r
 
 -- a part whose fields are all ones in the lanes of a mask, and 0 in the others
 pub record Spreads (w lanes bits : ℕ) : Type 0 where

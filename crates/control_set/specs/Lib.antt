@@ -4,4 +4,8 @@ pub mod Lanes
 pub mod Values
 pub mod Store
 pub mod Gate
+pub mod Asked
+pub mod Chosen
+pub mod Served
+pub mod Placed
 pub mod Plan

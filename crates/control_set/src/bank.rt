@@ -1,31 +1,16 @@
-// A field of a lent bank, by its set, its entry's offset, part, width and lane.
-ghost use Rattle.std.specs.Prelude.{◌≡◌, ◌+◌, ◌^◌, ◌≤◌, ◌<◌};
-ghost use Rattle.rules.specs.Place.{lane_bit};
+// A byte, an AppSel and a field of a lent bank. That the bank is not too short is asked of each function that has it: as an array of `BANK_SIZE`
+// bytes each call would first cut it from its slice, with an arm for an error that can't be (the gate refuses 8), and say that what is behind
+// stays as it was.
+ghost use Rattle.std.specs.Prelude.{◌≡◌, ◌+◌, ◌^◌, ◌≤◌, ◌<◌, length};
 ghost use Rattle.rules.specs.Layout.{bank_size, HasBytes, set_start, app_sel_at};
-ghost use Rattle.control_set.specs.Field.{Spot, byte_in, bits_at, with_bits};
+ghost use Rattle.control_set.specs.Field.{bits_in, with_bits_in};
 
 use crate::field::{get, merged};
+use crate::lanes::Lane;
+use crate::place::Place;
 use rules::{app_sel_start, set_start};
 
-// Where a field lies in its set: its byte, and its lowest bit there.
-#[derive(Clone, Copy)]
-pub struct Place {
-    pub byte: usize,
-    pub bit: usize,
-}
-
-pub fn place_of(offset: usize, part: usize, width: usize, lane: usize) -> Place
-    requires { (1 ≤ lane) × (byte_in offset part width lane < 256) }
-    ensures { (result.byte ≡ byte_in offset part width lane) × (result.bit ≡ lane_bit width lane) }
-{
-    let first = (lane - 1) * width;
-    Place {
-        byte: offset + part * width + first / 8,
-        bit: first % 8,
-    }
-}
-
-// Where a byte of a set stands in a bank.
+// Where a byte of a set stands in a bank. A set is a number behind the gate too: a type of those that have bytes would be made once a call.
 pub fn byte_of(set: usize, offset: usize) -> usize
     requires { HasBytes set × (offset < 256) }
     ensures { (result ≡ set_start set + offset) × (result < bank_size) }
@@ -34,45 +19,26 @@ pub fn byte_of(set: usize, offset: usize) -> usize
 }
 
 // Where the AppSel of a lane of a staged set stands.
-pub fn app_sel_at(set: usize, lane: usize) -> usize
-    requires { (set < 2) × (1 ≤ lane) × (lane ≤ 8) }
-    ensures { (result ≡ app_sel_at set lane) × (result < bank_size) }
+pub fn app_sel_at(set: usize, lane: Lane) -> usize
+    requires { set < 2 }
+    ensures { (result ≡ app_sel_at set lane.number) × (result < bank_size) }
 {
-    app_sel_start(set) + (lane - 1)
+    app_sel_start(set) + (lane.number - 1)
 }
 
-// The bits of a field. Five numbers say where it is, and no struct: each call has two of an entry and three of its caller's, and would make
-// one of these for a single use.
-pub fn read_field(
-    bank: &[u8],
-    set: usize,
-    offset: usize,
-    part: usize,
-    width: usize,
-    lane: usize,
-) -> u8
-    requires { Spot bank.now set offset part width lane }
-    ensures { result ≡ bits_at bank.now set offset part width lane }
+// The bits of a field.
+pub fn read_field(bank: &[u8], place: Place) -> u8
+    requires { bank_size ≤ length bank.now }
+    ensures { result ≡ bits_in bank.now place.at place.bit place.width }
 {
-    let p = place_of(offset, part, width, lane);
-    get(bank[byte_of(set, p.byte)], p.bit, width)
+    get(bank[place.at], place.bit, place.width)
 }
 
 // Other bits into a field; all others keep their content.
-pub fn write_field(
-    bank: &mut [u8],
-    set: usize,
-    offset: usize,
-    part: usize,
-    width: usize,
-    lane: usize,
-    value: u8,
-)
-    requires spot { Spot bank.old set offset part width lane }
-    requires value_bound { value < 2 ^ width }
-    ensures { bank.new ≡ with_bits bank.old set offset part width lane value }
+pub fn write_field(bank: &mut [u8], place: Place, value: u8)
+    requires whole { bank_size ≤ length bank.old }
+    requires value_bound { value < 2 ^ place.width }
+    ensures { bank.new ≡ with_bits_in bank.old place.at place.bit place.width value }
 {
-    let p = place_of(offset, part, width, lane);
-    let at = byte_of(set, p.byte);
-    bank[at] = merged(bank[at], p.bit, width, value);
+    bank[place.at] = merged(bank[place.at], place.bit, place.width, value);
 }

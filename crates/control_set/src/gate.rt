@@ -1,20 +1,26 @@
 // What every call on a bank checks first: 9, 8, then the entries.
-ghost use Rattle.control_set.specs.Gate.{Gated, FieldGated, ByteGated};
+ghost use Rattle.control_set.specs.Gate.{SizeChecked, Gated, FieldGated, ByteGated};
 ghost use Rattle.descriptor.specs.Lent.{over};
 
 use descriptor::{Descriptors, Named};
 use rules::{BANK_SIZE, Field, Loaded, Refusal};
 
+// 9, then 8.
+fn check_size(desc: Descriptors, size: usize) -> Result<(), Refusal>
+    ensures { over SizeChecked desc.entry size result }
+{
+    desc.check_limits()?;
+    if size < BANK_SIZE {
+        return Err(Refusal::Plain(8));
+    }
+    Ok(())
+}
+
 // 9, 8 and the checks of the entries: what the load answers, or the refusal.
 pub fn admit(desc: Descriptors, size: usize) -> Result<Loaded, Refusal>
     ensures { over Gated desc.entry size result }
 {
-    if !desc.limits() {
-        return Err(Refusal::Plain(9));
-    }
-    if size < BANK_SIZE {
-        return Err(Refusal::Plain(8));
-    }
+    check_size(desc, size)?;
     desc.load()
 }
 
@@ -34,18 +40,11 @@ pub fn admit_byte(
 ) -> Result<bool, Refusal>
     ensures { over ByteGated desc.entry size set offset result }
 {
-    if !desc.limits() {
-        return Err(Refusal::Plain(9));
-    }
-    if size < BANK_SIZE {
-        return Err(Refusal::Plain(8));
-    }
+    check_size(desc, size)?;
     let covered = desc.cover(offset)?;
     let Some(by) = covered else {
         return Err(Refusal::Plain(10));
     };
-    if !((set < 3) & !((set < 2) & by.ro)) {
-        return Err(Refusal::Plain(10));
-    }
-    Ok(offset - by.offset < by.parts * by.width)
+    by.spaced(set)?;
+    Ok(offset - by.fields.offset < by.fields.parts * by.fields.width)
 }

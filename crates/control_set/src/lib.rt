@@ -1,4 +1,5 @@
-// Setting: the calls on a lent bank of two staged sets and the active set.
+// Setting: the calls on a lent bank of two staged sets and the active set. Descriptors and bank stand apart in all of them: the one is copied, the
+// other lent to be changed, so a struct of both would be made once a call.
 #![tactic(auto)]
 
 ghost use Rattle.std.specs.Prelude.{◌≡◌, ◌≤◌, length};
@@ -10,20 +11,25 @@ ghost use Rattle.control_set.specs.Store.{Storable, stored_by, store_of};
 ghost use Rattle.descriptor.specs.Lent.{over};
 
 mod bank; // a field of a bank
+mod chosen; // what apply is asked
 mod copy; // apply's copy
 mod field; // a field of a byte
 mod gate; // 9, 8 and the checks of the entries
 mod judge; // 14 in an entry
 mod lanes; // masks of lanes
 mod number; // numbers and bits
+mod place; // a field's bits in its set
 mod plan; // 13, 14 and the bits that are copied
+mod served; // what 13 lets pass
 
 use crate::bank::{app_sel_at, byte_of, read_field, write_field};
+use crate::chosen::Chosen;
 use crate::copy::copy_planned;
 use crate::gate::{admit, admit_byte, admit_field};
-use crate::lanes::lowest_lane;
+use crate::lanes::Lane;
 use crate::number::{bits_of, number_of, weight_of};
-use crate::plan::{Chosen, plan_all};
+use crate::place::Place;
+use crate::plan::{Plan, plan_all};
 use descriptor::{Descriptors, Named};
 use rules::{Answer, BANK_SIZE, Call, Field, Loaded, Refusal};
 
@@ -45,7 +51,8 @@ pub fn fresh(desc: Descriptors, bank: &mut [u8]) -> Result<Loaded, Refusal>
     Ok(loaded)
 }
 
-// select: stores the AppSel of a lane of a staged set.
+// select: stores the AppSel of a lane of a staged set. In each call 10 and 11 of a set stand with what else it refuses by these numbers, a lane or
+// an RO entry: a function of the set alone would make two tests of one.
 pub fn select(
     desc: Descriptors,
     bank: &mut [u8],
@@ -66,7 +73,7 @@ pub fn select(
     if desc.count < app {
         return Err(Refusal::Plain(12));
     }
-    bank[app_sel_at(set, lane)] = app as u8;
+    bank[app_sel_at(set, Lane { number: lane })] = app as u8;
     Ok(Answer::Yes)
 }
 
@@ -79,8 +86,9 @@ fn store(bank: &mut [u8], set: usize, f: Named, field: Field, value: i64) -> Res
     if !f.accepted.has(value) {
         return Err(Refusal::Plain(12));
     }
-    let bits = bits_of(value);
-    write_field(bank, set, f.offset, field.part, f.width, field.lane, bits);
+    let lane = Lane { number: field.lane };
+    let place = Place::of(set, &f.fields, field.part, lane);
+    write_field(bank, place, bits_of(value));
     Ok(Answer::Yes)
 }
 
@@ -92,8 +100,8 @@ pub fn write(
     field: Field,
     value: i64,
 ) -> Result<Answer, Refusal>
-    ensures answer { result ≡ (over bank_call desc.entry (Call.Write set field.entry field.part field.lane value) bank.old).0 }
-    ensures after { bank.new ≡ (over bank_call desc.entry (Call.Write set field.entry field.part field.lane value) bank.old).1 }
+    ensures answer { result ≡ (over bank_call desc.entry (Call.Write set field value) bank.old).0 }
+    ensures after { bank.new ≡ (over bank_call desc.entry (Call.Write set field value) bank.old).1 }
 {
     let f = admit_field(desc, bank.len(), field)?;
     if !(set < 3) {
@@ -107,16 +115,13 @@ pub fn write(
 
 // read: answers the number of a field.
 pub fn read(desc: Descriptors, bank: &[u8], set: usize, field: Field) -> Result<Answer, Refusal>
-    ensures answer { result ≡ (over bank_call desc.entry (Call.Read set field.entry field.part field.lane) bank.now).0 }
+    ensures answer { result ≡ (over bank_call desc.entry (Call.Read set field) bank.now).0 }
 {
     let f = admit_field(desc, bank.len(), field)?;
-    if !(set < 3) {
-        return Err(Refusal::Plain(10));
-    }
-    if (set < 2) & f.ro {
-        return Err(Refusal::Plain(11));
-    }
-    let bits = read_field(bank, set, f.offset, field.part, f.width, field.lane);
+    f.shown(set)?;
+    let lane = Lane { number: field.lane };
+    let place = Place::of(set, &f.fields, field.part, lane);
+    let bits = read_field(bank, place);
     Ok(Answer::Number(number_of(f.signed, bits)))
 }
 
@@ -162,8 +167,8 @@ pub fn publish(
     field: Field,
     value: i64,
 ) -> Result<Answer, Refusal>
-    ensures answer { result ≡ (over bank_call desc.entry (Call.Publish field.entry field.part field.lane value) bank.old).0 }
-    ensures after { bank.new ≡ (over bank_call desc.entry (Call.Publish field.entry field.part field.lane value) bank.old).1 }
+    ensures answer { result ≡ (over bank_call desc.entry (Call.Publish field value) bank.old).0 }
+    ensures after { bank.new ≡ (over bank_call desc.entry (Call.Publish field value) bank.old).1 }
 {
     let f = admit_field(desc, bank.len(), field)?;
     if !f.ro {
@@ -185,18 +190,15 @@ pub fn apply(desc: Descriptors, bank: &mut [u8], set: usize, lanes: u8) -> Resul
         return Err(Refusal::Plain(11));
     }
     let chosen = Chosen {
-        count: desc.count,
+        desc,
         set,
         lanes,
+        bank: &*bank,
     };
-    if let Some(lane) = lowest_lane(chosen.lacking(bank)) {
-        return Err(Refusal::AtLane(13, lane));
-    }
-    // A byte for each of a set, and eight behind them, since a part is planned by eight bytes (no heap).
-    let mut plan = [0; 264];
-    if let Some(bad) = lowest_lane(plan_all(chosen, desc.rw, loaded.rw_count, bank, &mut plan)) {
-        return Err(Refusal::AtLane(14, bad));
-    }
+    // Cleared before the AppSels are read: the compiler would keep these in memory across that.
+    let mut plan: Plan = [0; 264];
+    let served = chosen.served()?;
+    plan_all(served, loaded.rw_count, &mut plan)?;
     copy_planned(set, loaded.staged_length, &plan, bank);
     Ok(Answer::Yes)
 }
@@ -208,27 +210,11 @@ pub fn perform(desc: Descriptors, bank: &mut [u8], call: Call) -> Result<Answer,
 {
     match call {
         Call::Select { set, lane, app } => select(desc, bank, set, lane, app),
-        Call::Write {
-            set,
-            entry,
-            part,
-            lane,
-            value,
-        } => write(desc, bank, set, Field { entry, part, lane }, value),
-        Call::Read {
-            set,
-            entry,
-            part,
-            lane,
-        } => read(desc, bank, set, Field { entry, part, lane }),
+        Call::Write { set, field, value } => write(desc, bank, set, field, value),
+        Call::Read { set, field } => read(desc, bank, set, field),
         Call::ByteWrite { set, offset, byte } => byte_write(desc, bank, set, offset, byte),
         Call::ByteRead { set, offset } => byte_read(desc, bank, set, offset),
-        Call::Publish {
-            entry,
-            part,
-            lane,
-            value,
-        } => publish(desc, bank, Field { entry, part, lane }, value),
+        Call::Publish { field, value } => publish(desc, bank, field, value),
         Call::Apply { set, lanes } => apply(desc, bank, set, lanes),
     }
 }
@@ -250,6 +236,7 @@ pub fn weight(desc: Descriptors, bank: &[u8], entry: usize, lane: usize) -> Resu
     let Some(step) = f.step else {
         return Err(Refusal::Plain(10));
     };
-    let bits = read_field(bank, 2, f.offset, 0, 8, lane);
-    Ok(Answer::Number(weight_of(step, i64::from(bits.cast_signed()))))
+    let place = Place::of(2, &f.fields, 0, Lane { number: lane });
+    let bits = read_field(bank, place);
+    Ok(Answer::Number(weight_of(step, bits.cast_signed())))
 }

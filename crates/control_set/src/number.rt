@@ -22,7 +22,7 @@ pub fn bits_of(value: i64) -> u8
     value.rem_euclid(256) as u8
 }
 
-// What a step is worth, in thousandths.
+// What a step is worth, in thousandths. A step is its code, its only name in document 01.
 fn scale(step: usize) -> i64
     ensures { result ≡ pos (thousandths step) }
 {
@@ -35,9 +35,8 @@ fn scale(step: usize) -> i64
 }
 
 // The weight of a 12h field's number, in thousandths.
-pub fn weight_of(step: usize, value: i64) -> i64
-    requires { InBits 8 value }
+pub fn weight_of(step: usize, value: i8) -> i64
     ensures { result ≡ weight_of step value }
 {
-    value * scale(step)
+    i64::from(value) * scale(step)
 }

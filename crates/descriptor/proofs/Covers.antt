@@ -22,19 +22,21 @@ use Rattle.rules.proofs.Place.CoverIndex.{index-spans, index-none, index-is}
 use Rattle.rules.proofs.Load.Walks.{map-good, length-most}
 use Rattle.rules.proofs.Load.EntryHeads.{Head, strings-short, few-entries}
 use Rattle.rules.proofs.Refusals.Orders.{order-refused, order-accepted}
+use Rattle.descriptor.specs.declared.Fields.{Fields}
 use Rattle.descriptor.specs.declared.Covered.{Covered}
+use Rattle.descriptor.specs.Find.{fields_of}
 use Rattle.descriptor.specs.Cover.{none_covers, by, cover_in, cover_of, Reachable, Hits, Misses}
 use Rattle.descriptor.specs.declared.search.Hit.{Hit}
 use Rattle.descriptor.proofs.Marks.{mark_of, accepts, rw-count, all-count, active-is, passable, entry-stands, entry-heads, string-ends}
 
 -- an entry whose space covers byte k
-pub record Covering (count : ℕ) (rw ro : List ℕ) (k : ℕ) (in_ro : Bool) (n offset parts width : ℕ) : Type 0 where
+pub record Covering (count : ℕ) (rw ro : List ℕ) (k : ℕ) (in_ro : Bool) (n : ℕ) (f : Fields) : Type 0 where
   pub ok : Accepted count rw ro
   pub there : n < length (map_of count rw ro).entries
   pub side : not (is_rw (map_of count rw ro) n) ≡ in_ro
-  pub offset-is : (entry (map_of count rw ro) n).offset ≡ offset
-  pub parts-is : parts_of (entry (map_of count rw ro) n) ≡ parts
-  pub width-is : width_of (entry (map_of count rw ro) n) ≡ width
+  pub offset-is : (entry (map_of count rw ro) n).offset ≡ f.offset
+  pub parts-is : parts_of (entry (map_of count rw ro) n) ≡ f.parts
+  pub width-is : width_of (entry (map_of count rw ro) n) ≡ f.width
   pub low : (entry (map_of count rw ro) n).offset ≤ k
   pub top : k < (entry (map_of count rw ro) n).offset + (entry (map_of count rw ro) n).memory
 
@@ -42,10 +44,10 @@ pub record Covering (count : ℕ) (rw ro : List ℕ) (k : ℕ) (in_ro : Bool) (n
 data Says (count : ℕ) (rw ro : List ℕ) (k : ℕ) : Result (Option Covered) Refusal → Type 0 where
   refused : (r : Refusal) → load_of count rw ro ≡ Err r → Says count rw ro k (Err r)
   none : Accepted count rw ro → ((s : ℕ) → length_of (map_of count rw ro) s ≤ k) → Says count rw ro k none_covers
-  one : {in_ro : Bool} {n offset parts width c : ℕ}
-      → Covering count rw ro k in_ro n offset parts width
+  one : {in_ro : Bool} {n : ℕ} {f : Fields} {c : ℕ}
+      → Covering count rw ro k in_ro n f
       → looked_at (map_of count rw ro) k ≡ c
-      → Says count rw ro k (by n offset parts width c in_ro)
+      → Says count rw ro k (by n f c in_ro)
 
 module _ (count : ℕ) (first last : List ℕ) (k : ℕ) where
   abbrev m : Map
@@ -70,7 +72,7 @@ module _ (count : ℕ) (first last : List ℕ) (k : ℕ) where
       n : ℕ
       n = cover_index m.entries k
 
-      go : (b : Bool) → ltb n (length m.entries) ≡ b → Says count first last k (cond b (by n (entry m n).offset (parts_of (entry m n)) (width_of (entry m n)) (looked_at m k) (not (is_rw m n))) none_covers)
+      go : (b : Bool) → ltb n (length m.entries) ≡ b → Says count first last k (cond b (by n (fields_of (entry m n)) (looked_at m k) (not (is_rw m n))) none_covers)
       go true q =
           let x = index-spans m k (ltb-true n (length m.entries) q) in
           one (record { ok = ok; there = x.there; side = refl; offset-is = refl; parts-is = refl; width-is = refl; low = x.low; top = x.top }) refl
@@ -102,12 +104,12 @@ module _ (count : ℕ) (first last : List ℕ) (k : ℕ) where
       go (none ok h) = (ok, h)
 
   pub cover-one :
-      (in_ro : Bool) (n offset parts width c : ℕ)
-      → cover_of count first last k ≡ by n offset parts width c in_ro
-      → Covering count first last k in_ro n offset parts width × (looked_at (map_of count first last) k ≡ c)
-  cover-one in_ro n offset parts width c q = go (rw q at (says count first last k))
+      (in_ro : Bool) (n : ℕ) (f : Fields) (c : ℕ)
+      → cover_of count first last k ≡ by n f c in_ro
+      → Covering count first last k in_ro n f × (looked_at (map_of count first last) k ≡ c)
+  cover-one in_ro n f c q = go (rw q at (says count first last k))
     where
-      go : Says count first last k (by n offset parts width c in_ro) → Covering count first last k in_ro n offset parts width × (looked_at (map_of count first last) k ≡ c)
+      go : Says count first last k (by n f c in_ro) → Covering count first last k in_ro n f × (looked_at (map_of count first last) k ≡ c)
       go (one x y) = (x, y)
 
 -- for `cover`: what the search of each string finds
@@ -126,8 +128,7 @@ module _ (count : ℕ) (first last : List ℕ) (k n c d t : ℕ) (h : load_of co
       → mark_of (entry p e) ≡ record { at = i; sum = o }
       → o ≤ k
       → k < o + byte_at s (i + 2 + mask_bytes count)
-      → (i ≤ length s)
-      × (by e (entry_at (mask_bytes count) s i o).offset (parts_of (entry_at (mask_bytes count) s i o)) (width_of (entry_at (mask_bytes count) s i o)) (suc e) (not (is_rw p e)) ≡ cover_of count first last k)
+      → (by e (fields_of (entry_at (mask_bytes count) s i o)) (suc e) (not (is_rw p e)) ≡ cover_of count first last k)
   unfolding cover_in
   covers-at e {s} {i} {o} l w q low top =
       let a : (entry p e).start ≡ i = ap (λ x. x.at) q in
@@ -135,10 +136,8 @@ module _ (count : ℕ) (first last : List ℕ) (k n c d t : ℕ) (h : load_of co
       let is : entry p e ≡ entry_at (mask_bytes count) s i o = w.says ∙ rw (a, b) refl in
       let memory : (entry p e).memory ≡ byte_at s ((entry p e).start + 2 + mask_bytes count) = ap (λ x. x.memory) w.says in
       let y : k < (entry p e).offset + (entry p e).memory = rw (memory, a, b) top in
-      let j : cover_index p.entries k ≡ e = index-is p (map-good count first last ok) (record { there = l; low = omega arith; top = y }) in (
-        omega (arith, w.room),
-        rw (← is, ← b) (sym (rw (j, lt-ltb e (length p.entries) l) refl)) ∙ cover-accepted count first last k ok,
-      )
+      let j : cover_index p.entries k ≡ e = index-is p (map-good count first last ok) (record { there = l; low = omega arith; top = y }) in
+      rw (← is, ← b) (sym (rw (j, lt-ltb e (length p.entries) l) refl)) ∙ cover-accepted count first last k ok
 
   short : (b : Bool) → length (cond b last first) ≤ 120
   short true = (strings-short count first last ok).1
@@ -173,15 +172,14 @@ module _ (count : ℕ) (first last : List ℕ) (k n c d t : ℕ) (h : load_of co
 
     module _ {looked : ℕ} {x : Hit} (f : Hits (mask_bytes count) (cond in_ro last first) (cond in_ro d 0) (cond in_ro c n) k (cond in_ro n 0) looked x) where
       pub covers-found :
-          (x.mark.at ≤ 120)
-          × (by (cond in_ro (n + x.number) x.number) x.mark.sum (parts_of (entry_at (mask_bytes count) (cond in_ro last first) x.mark.at x.mark.sum)) (width_of (entry_at (mask_bytes count) (cond in_ro last first) x.mark.at x.mark.sum)) looked in_ro ≡ cover_of count first last k)
+          (by (cond in_ro (n + x.number) x.number) (fields_of (entry_at (mask_bytes count) (cond in_ro last first) x.mark.at x.mark.sum)) looked in_ro ≡ cover_of count first last k)
           × (cond in_ro (n + x.number) x.number ≤ 2 * entry_limit)
       covers-found =
           let (u, v) = in-string x.number f.inside in
           let e = cond in_ro (n + x.number) x.number in
           let q = sym (entry-stands count first last n c d t h in_ro x.number f.inside) ∙ f.is in
-          let (y, w) = covers-at e u (entry-heads count first last n c d t h in_ro x.number f.inside) q f.low f.top in
-          (omega (arith, short in_ro), rw (f.counted, counted in_ro x.number) (rw v at w), omega (arith, few-entries count first last ok))
+          let w = covers-at e u (entry-heads count first last n c d t h in_ro x.number f.inside) q f.low f.top in
+          (rw (f.counted, counted in_ro x.number) (rw v at w), omega (arith, few-entries count first last ok))
 
     -- none: the byte lies past the spaces of the string
     pub covers-past :
@@ -196,7 +194,7 @@ module _ (count : ℕ) (first last : List ℕ) (k n c d t : ℕ) (h : load_of co
   covers-none past = go (ltb (cover_index p.entries k) (length p.entries)) refl ∙ cover-accepted count first last k ok
     where
       go : (b : Bool) → ltb (cover_index p.entries k) (length p.entries) ≡ b
-          → none_covers ≡ cond b (by (cover_index p.entries k) (entry p (cover_index p.entries k)).offset (parts_of (entry p (cover_index p.entries k))) (width_of (entry p (cover_index p.entries k))) (looked_at p k) (not (is_rw p (cover_index p.entries k)))) none_covers
+          → none_covers ≡ cond b (by (cover_index p.entries k) (fields_of (entry p (cover_index p.entries k))) (looked_at p k) (not (is_rw p (cover_index p.entries k)))) none_covers
       go true q =
           let x = index-spans p k (ltb-true _ _ q) in
           absurd (omega (arith, active-is count first last n c d t h, x.top, (map-good count first last ok).ends 2 _ x.there))

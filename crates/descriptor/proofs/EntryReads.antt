@@ -13,17 +13,18 @@ use Rattle.rules.specs.Load.{load_of, rw_entries}
 use Rattle.rules.specs.Place.{nothing}
 use Rattle.rules.specs.Demands.{Accepted}
 use Rattle.rules.proofs.Load.Walks.{load-accepted}
-use Rattle.descriptor.specs.declared.search.Mark.{Mark}
-use Rattle.descriptor.specs.Rows.{classes, shapes}
+use Rattle.descriptor.specs.declared.Mark.{Mark}
+use Rattle.descriptor.specs.declared.table.Row.{Row}
+use Rattle.descriptor.specs.Rows.{classes, rows}
 use Rattle.descriptor.specs.Find.{named_of}
 use Rattle.descriptor.specs.Marks.{OnEntry, mark_after}
 use Rattle.descriptor.specs.Reading.{read_of, read_by}
-use Rattle.descriptor.proofs.Shapes.{shape-table, shaped-table}
+use Rattle.descriptor.proofs.LentRows.{row-table, shaped-table}
 use Rattle.descriptor.proofs.Marks.{mark_of, Marked, marked, accepts}
 
 -- where an entry can stand, it is read
 pub read-on :
-    (x : List ℕ) (y : List (List ℕ)) (count : ℕ) (s : List ℕ) (mark : Mark)
+    (x : List ℕ) (y : List Row) (count : ℕ) (s : List ℕ) (mark : Mark)
     → OnEntry (mask_bytes count) s mark
     → read_by x y count s mark.at mark.sum ≡ read_of x y (entry_at (mask_bytes count) s mark.at mark.sum)
 unfolding read_by
@@ -32,8 +33,8 @@ read-on x y count s mark h =
 
 -- by the table's rows
 read-table :
-    (e : Entry) → read_of classes shapes e ≡ record { mask = e.mask; named = named_of false e; next = e.start + e.length; end = e.offset + e.memory }
-read-table e = rw (shape-table e.id, shaped-table false e) refl
+    (e : Entry) → read_of classes rows e ≡ record { mask = e.mask; named = named_of false e; next = record { at = e.start + e.length; sum = e.offset + e.memory } }
+read-table e = rw (row-table e.id, shaped-table false e) refl
 
 -- the RW string, in the numbers that an accepted load answers
 module _ (count : ℕ) (first last : List ℕ) (n k c t : ℕ) (h : load_of count first last ≡ accepted n k c t) where
@@ -66,15 +67,14 @@ module _ (count : ℕ) (first last : List ℕ) (n k c t : ℕ) (h : load_of coun
   pub read-entry :
       (i : ℕ)
       → i < n
-      → read_by classes shapes count first (mark_after (mask_bytes count) first 0 i).at (mark_after (mask_bytes count) first 0 i).sum
+      → read_by classes rows count first (mark_after (mask_bytes count) first 0 i).at (mark_after (mask_bytes count) first 0 i).sum
       ≡ record {
         mask = (get_or (rw_entries count first) i nothing).mask;
         named = named_of false (get_or (rw_entries count first) i nothing);
-        next = (mark_after (mask_bytes count) first 0 (suc i)).at;
-        end = (mark_after (mask_bytes count) first 0 (suc i)).sum;
+        next = mark_after (mask_bytes count) first 0 (suc i);
       }
   unfolding mark_after
   read-entry i l =
-      read-on classes shapes count first (mark i) (mark-on i l)
+      read-on classes rows count first (mark i) (mark-on i l)
       ∙ read-table (entry_at (mask_bytes count) first (mark i).at (mark i).sum)
-      ∙ ap (λ (e : Entry). record { mask = e.mask; named = named_of false e; next = (mark (suc i)).at; end = (mark (suc i)).sum }) (read-is i l)
+      ∙ ap (λ (e : Entry). record { mask = e.mask; named = named_of false e; next = mark (suc i) }) (read-is i l)

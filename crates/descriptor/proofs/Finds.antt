@@ -22,9 +22,12 @@ use Rattle.rules.proofs.Refusals.Orders.{order-passes}
 use Rattle.rules.proofs.Refusals.Verdicts.{first-passes, refuse-if-passes}
 use Rattle.rules.proofs.Load.EntryBytes.{verdict-passes}
 use Rattle.rules.proofs.Load.EntryHeads.{Head, entry-head, strings-short}
+use Rattle.descriptor.specs.declared.Mark.{Mark}
 use Rattle.descriptor.specs.declared.Named.{Named}
 use Rattle.descriptor.specs.Locate.{at, located, located_of}
 use Rattle.descriptor.specs.Find.{named_of, InMap, found, told_order, found_of, held_in}
+use Rattle.descriptor.proofs.Limits.{accepted-sized}
+use Rattle.descriptor.proofs.Marks.{mark_of}
 use Rattle.descriptor.proofs.Locates.{located-same}
 
 -- what is found of it
@@ -40,13 +43,13 @@ module _ (count : ℕ) (first last : List ℕ) {e p i : ℕ} {f : Named} (z : In
   unfolding named_of
   side-is = ap (λ (x : Named). x.ro) (sym z.is)
 
-  pub offset-is : f.offset ≡ (entry (map_of count first last) e).offset
+  pub offset-is : f.fields.offset ≡ (entry (map_of count first last) e).offset
   unfolding named_of
-  offset-is = ap (λ (x : Named). x.offset) (sym z.is)
+  offset-is = ap (λ (x : Named). x.fields.offset) (sym z.is)
 
-  pub width-is : f.width ≡ width_of (entry (map_of count first last) e)
+  pub width-is : f.fields.width ≡ width_of (entry (map_of count first last) e)
   unfolding named_of
-  width-is = ap (λ (x : Named). x.width) (sym z.is)
+  width-is = ap (λ (x : Named). x.fields.width) (sym z.is)
 
   pub signed-is : f.signed ≡ signed_of (entry (map_of count first last) e)
   unfolding named_of
@@ -135,42 +138,45 @@ module _ (count : ℕ) (first last : List ℕ) (short : Bool) (e p i : ℕ) wher
     located-refused-found r h = ap (λ v. found v (Ok named)) (sym (go (entry_verdict (read_of count first last) e) refl h)) ∙ sym verdict
       where
         go : (v : Verdict) → entry_verdict (read_of count first last) e ≡ v
-            → located v (at (not (is_rw m e)) (entry m e).start (entry m e).length (entry m e).offset) ≡ Err r
+            → located v (at (not (is_rw m e)) (mark_of (entry m e)) (entry m e).length) ≡ Err r
             → field_verdict ≡ refuses r
         go passes z q = let o : ◌≡◌ {A = ℕ} 0 1 = cc in absurd (omega arith)
         go (refuses r') z q = let y : r' ≡ r = cc in entry-first (check9 (read_of count first last)) (check_entries (read_of count first last)) (ltb e (length m.entries)) (ltb p (parts_of (entry m e)) && is_lane i) r (z ∙ ap refuses y)
 
     -- the bytes at its start say what it is
-    module _ (x : Bool) (s n o : ℕ) (h : located_of count first last e ≡ at x s n o) where
+    module _ (x : Bool) (w : Mark) (n : ℕ) (h : located_of count first last e ≡ at x w n) where
       passed : entry_verdict (read_of count first last) e ≡ passes
       unfolding located_of
       passed = go (entry_verdict (read_of count first last) e) h
         where
-          go : (v : Verdict) → located v (at (not (is_rw m e)) (entry m e).start (entry m e).length (entry m e).offset) ≡ at x s n o → v ≡ passes
+          go : (v : Verdict) → located v (at (not (is_rw m e)) (mark_of (entry m e)) (entry m e).length) ≡ at x w n → v ≡ passes
           go passes q = refl
           go (refuses r) q = let z : ◌≡◌ {A = ℕ} 0 1 = cc in absurd (omega arith)
 
-      tested : field_verdict ≡ first_of (refuse_if (not (ltb p named.parts && is_lane i)) (plain 10) ∷ [])
+      pub located-sized : sized count first last ≡ true
+      located-sized = accepted-sized count first last (verdict-passes count first last e passed).0
+
+      tested : field_verdict ≡ first_of (refuse_if (not (ltb p named.fields.parts && is_lane i)) (plain 10) ∷ [])
       unfolding entry_verdict order_of field_verdict named_of
       tested = entry-passes (check9 (read_of count first last)) (check_entries (read_of count first last)) (ltb e (length m.entries)) _ passed
 
       held : held_in named p i ≡ found_of count first last short e p i
       unfolding held_in
-      held = go (ltb p named.parts && is_lane i) ∙ ap (λ v. found v (Ok named)) (sym tested) ∙ sym verdict
+      held = go (ltb p named.fields.parts && is_lane i) ∙ ap (λ v. found v (Ok named)) (sym tested) ∙ sym verdict
         where
           go : (t : Bool) → cond t (Ok named) (Err (plain 10)) ≡ found (first_of (refuse_if (not t) (plain 10) ∷ [])) (Ok named)
           go true = refl
           go false = refl
 
-      pub located-found : (held_in (named_of x (entry_at (mask_bytes count) (cond x last first) s o)) p i ≡ found_of count first last short e p i) × (s ≤ 120)
+      pub located-found : (held_in (named_of x (entry_at (mask_bytes count) (cond x last first) w.at w.sum)) p i ≡ found_of count first last short e p i) × (w.at ≤ 120)
       unfolding located_of
       located-found =
-          let q : at (not (is_rw m e)) (entry m e).start (entry m e).length (entry m e).offset ≡ at x s n o
+          let q : at (not (is_rw m e)) (mark_of (entry m e)) (entry m e).length ≡ at x w n
           = rw passed at h in
-          let (a, b, _, d) = located-same _ _ q in
+          let (a, b, _) = located-same _ _ q in
           let (ok, lt) = verdict-passes count first last e passed in
           let (y, z) = side (is_rw m e) (entry-head count first last ok e lt) in
-          (rw (← a, ← b, ← d) (ap (λ f. held_in f p i) y ∙ held), rw (← b) (omega (arith, limit (is_rw m e) ok)))
+          (rw (← a, ← b) (ap (λ f. held_in f p i) y ∙ held), rw (← b) (omega (arith, limit (is_rw m e) ok)))
         where
           side : (b : Bool) → Head (mask_bytes count) (cond b first last) (entry m e)
               → (named_of (not b) (entry_at (mask_bytes count) (cond (not b) last first) (entry m e).start (entry m e).offset) ≡ named_of (not b) (entry m e))

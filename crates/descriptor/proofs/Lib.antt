@@ -1,6 +1,9 @@
 -- Laws that the functions' proofs cite.
 pub mod TableRows
-pub mod Shapes
+pub mod LentRows
+pub mod Limits
+pub mod Sets
+pub mod Lengths
 pub mod Bits
 pub mod Accepts
 pub mod Chain

@@ -3,7 +3,7 @@ use Rattle.std.specs.Prelude.{Result, Err, Ok}
 use mathlib.Core.Path.{◌≡◌, refl, sym, ap, ◌∙◌}
 use mathlib.Core.Bool.{Bool, true, false, not, cond}
 use mathlib.Core.List.{List, []}
-use Prim.Native.Nat.{ℕ, ◌+◌, ◌≤◌, ◌<◌}
+use Prim.Native.Nat.{ℕ, suc, ◌+◌, ◌≤◌, ◌<◌}
 use native.Mathlib.Omega.{arith}
 use lib.ListN.{length, take, drop}
 use borrow.Author.Tests.{lt-ltb, le-ltb}
@@ -22,18 +22,18 @@ use Rattle.rules.proofs.Refusals.Orders.{order-refused, order-accepted}
 use Rattle.rules.proofs.Load.EntryHeads.{Head}
 use Rattle.rules.proofs.Load.EntryBytes.{entry-part, verdict-passes}
 use Rattle.rules.proofs.Basics.Results.{ok-same}
-use Rattle.descriptor.specs.declared.search.Mark.{Mark}
+use Rattle.descriptor.specs.declared.Mark.{Mark}
 use Rattle.descriptor.specs.declared.Located.{Located}
-use Rattle.descriptor.specs.Locate.{at, located, located_on, located_of}
+use Rattle.descriptor.specs.Locate.{at, located, located_after, located_on, located_of}
 use Rattle.descriptor.specs.Marks.{mark_after, Passable}
 use Rattle.descriptor.proofs.Marks.{mark_of, accepts, rw-count, all-count, passable, entry-stands, entry-heads}
 
 pub located-same : (x y : Located)
     → ◌≡◌ {A = Result Located Refusal} (Ok x) (Ok y)
-    → (x.ro ≡ y.ro) × (x.start ≡ y.start) × (x.length ≡ y.length) × (x.offset ≡ y.offset)
+    → (x.ro ≡ y.ro) × (x.mark ≡ y.mark) × (x.length ≡ y.length)
 located-same x y h =
     let q : x ≡ y = ok-same x y h in
-    (ap (λ (l : Located). l.ro) q, ap (λ (l : Located). l.start) q, ap (λ (l : Located). l.length) q, ap (λ (l : Located). l.offset) q)
+    (ap (λ (l : Located). l.ro) q, ap (λ (l : Located). l.mark) q, ap (λ (l : Located). l.length) q)
 
 module _ (count : ℕ) (first last : List ℕ) (e : ℕ) where
   pub located-refused : (r : Refusal) → load_of count first last ≡ Err r → Err r ≡ located_of count first last e
@@ -67,23 +67,17 @@ module _ (count : ℕ) (first last : List ℕ) (e : ℕ) where
       head : Head (mask_bytes count) (cond in_ro last first) (entry (map_of count first last) e)
       head = rw q (entry-heads count first last n k c t h in_ro i l)
 
-      pub located-seeks : Passable (mask_bytes count) (cond in_ro last first) (cond in_ro c 0) i
-      located-seeks = passable count first last n k c t h in_ro i (omega arith)
+      pub located-seeks : Passable (mask_bytes count) (cond in_ro last first) (cond in_ro c 0) (suc i)
+      located-seeks = passable count first last n k c t h in_ro (suc i) (omega arith)
 
-      module _ (mark : Mark) (p : mark ≡ mark_after (mask_bytes count) (cond in_ro last first) (cond in_ro c 0) i) where
-        mark-is : mark ≡ mark_of (entry (map_of count first last) e)
-        mark-is = p ∙ entry-stands count first last n k c t h in_ro i l ∙ ap (λ x. mark_of (entry (map_of count first last) x)) (sym q)
-
-        -- the entry stands at the mark, with its second byte
-        pub located-inside : mark.at + 1 < length (cond in_ro last first)
-        located-inside = rw mark-is (omega (arith, head.room))
-
-        pub located-at : at in_ro mark.at (byte_at (cond in_ro last first) (mark.at + 1)) mark.sum ≡ located_of count first last e
-        unfolding located_of
-        located-at =
-            let x = entry (map_of count first last) e in
-            let y : x.length ≡ byte_at (cond in_ro last first) (x.start + 1) = ap (λ i. i.length) head.says in
-            rw (found, side, mark-is, ← y) refl
+      pub located-at : Ok (located_after in_ro (mask_bytes count) (cond in_ro last first) (cond in_ro c 0) i) ≡ located_of count first last e
+      unfolding located_of
+      located-at =
+          let x = entry (map_of count first last) e in
+          let w : mark_after (mask_bytes count) (cond in_ro last first) (cond in_ro c 0) i ≡ mark_of x
+          = entry-stands count first last n k c t h in_ro i l ∙ ap (λ x. mark_of (entry (map_of count first last) x)) (sym q) in
+          let y : x.length ≡ byte_at (cond in_ro last first) (x.start + 1) = ap (λ i. i.length) head.says in
+          rw (found, side, w, ← y) refl
 
     pub located-10 : n + k ≤ e → Err (plain 10) ≡ located_of count first last e
     unfolding located_of entry_verdict
@@ -91,30 +85,30 @@ module _ (count : ℕ) (first last : List ℕ) (e : ℕ) where
         rw (order-accepted count first last ok _, le-ltb e (length (map_of count first last).entries) (rw (all-count count first last n k c t h) l)) refl
 
   -- the entry call's answer, from where its entry stands
-  pub located-yes : (x : Bool) (s l o : ℕ) → located_of count first last e ≡ at x s l o → says_yes ≡ entry_answer count first last e
+  pub located-yes : (x : Bool) (w : Mark) (l : ℕ) → located_of count first last e ≡ at x w l → says_yes ≡ entry_answer count first last e
   unfolding located_of entry_answer
-  located-yes x s l o h = go (entry_verdict (read_of count first last) e) _ h
+  located-yes x w l h = go (entry_verdict (read_of count first last) e) _ h
     where
-      go : (v : Verdict) (y : Result Located Refusal) → located v y ≡ at x s l o → says_yes ≡ answered v says_yes
+      go : (v : Verdict) (y : Result Located Refusal) → located v y ≡ at x w l → says_yes ≡ answered v says_yes
       go passes y q = refl
       go (refuses r) y q = let z : ◌≡◌ {A = ℕ} 0 1 = cc in absurd (omega arith)
 
   pub located-no : (r : Refusal) → located_of count first last e ≡ Err r → Err r ≡ entry_answer count first last e
   unfolding located_of entry_answer
-  located-no r h = go (entry_verdict (read_of count first last) e) _ _ _ _ h
+  located-no r h = go (entry_verdict (read_of count first last) e) _ _ _ h
     where
-      go : (v : Verdict) (x : Bool) (s l o : ℕ) → located v (at x s l o) ≡ Err r → Err r ≡ answered v says_yes
-      go passes x s l o q = let z : ◌≡◌ {A = ℕ} 0 1 = cc in absurd (omega arith)
-      go (refuses r') x s l o q = let z : r' ≡ r = cc in rw z refl
+      go : (v : Verdict) (x : Bool) (w : Mark) (l : ℕ) → located v (at x w l) ≡ Err r → Err r ≡ answered v says_yes
+      go passes x w l q = let z : ◌≡◌ {A = ℕ} 0 1 = cc in absurd (omega arith)
+      go (refuses r') x w l q = let z : r' ≡ r = cc in rw z refl
 
   -- refused, an empty part
   pub located-empty : (r : Refusal) → located_of count first last e ≡ Err r → [] ≡ entry_bytes count first last e
   unfolding located_of entry_bytes
-  located-empty r h = go (entry_verdict (read_of count first last) e) _ _ _ _ _ h
+  located-empty r h = go (entry_verdict (read_of count first last) e) _ _ _ _ h
     where
-      go : (v : Verdict) (b : List ℕ) (x : Bool) (s l o : ℕ) → located v (at x s l o) ≡ Err r → [] ≡ part_or v b
-      go passes b x s l o q = let z : ◌≡◌ {A = ℕ} 0 1 = cc in absurd (omega arith)
-      go (refuses r') b x s l o q = refl
+      go : (v : Verdict) (b : List ℕ) (x : Bool) (w : Mark) (l : ℕ) → located v (at x w l) ≡ Err r → [] ≡ part_or v b
+      go passes b x w l q = let z : ◌≡◌ {A = ℕ} 0 1 = cc in absurd (omega arith)
+      go (refuses r') b x w l q = refl
 
 -- a part of a string
 pub record Span (s : List ℕ) (start long : ℕ) (bytes : List ℕ) : Type 0 where
@@ -132,19 +126,19 @@ module _ (count : ℕ) (first last : List ℕ) (e : ℕ) where
       let (ok, l) = verdict-passes count first last e h in
       record { inside = (entry-part count first last ok e l).inside; is = refl }
 
-  pub located-span : (x : Bool) (s l o : ℕ) → located_of count first last e ≡ at x s l o → Span (cond x last first) s l (entry_bytes count first last e)
+  pub located-span : (x : Bool) (w : Mark) (l : ℕ) → located_of count first last e ≡ at x w l → Span (cond x last first) w.at l (entry_bytes count first last e)
   unfolding located_of entry_bytes
-  located-span x s l o h = go (entry_verdict (read_of count first last) e) refl h
+  located-span x w l h = go (entry_verdict (read_of count first last) e) refl h
     where
       flip : (b : Bool) → cond (not b) last first ≡ cond b first last
       flip true = refl
       flip false = refl
 
       go : (v : Verdict) → entry_verdict (read_of count first last) e ≡ v
-          → located v (at (not (is_rw m e)) (entry m e).start (entry m e).length (entry m e).offset) ≡ at x s l o
-          → Span (cond x last first) s l (part_or v (own_bytes (cond (is_rw m e) first last) (entry m e)))
+          → located v (at (not (is_rw m e)) (mark_of (entry m e)) (entry m e).length) ≡ at x w l
+          → Span (cond x last first) w.at l (part_or v (own_bytes (cond (is_rw m e) first last) (entry m e)))
       go passes p q =
-          let (a, b, d, _) = located-same _ _ q in
+          let (a, b, d) = located-same _ _ q in
           rw (← a, ← b, ← d, flip (is_rw m e)) (passes-span p)
       go (refuses r) p q = let z : ◌≡◌ {A = ℕ} 0 1 = cc in absurd (omega arith)
 

@@ -20,7 +20,7 @@ use Rattle.rules.proofs.Place.AcceptedMap.{Good}
 use Rattle.rules.proofs.Load.Walks.{Map-accepted, load-accepted, total-append}
 use Rattle.rules.proofs.Load.Fills.{Filled, filled-nth, stands-start, rw-filled, ro-filled}
 use Rattle.rules.proofs.Load.EntryHeads.{Head, filled-head, strings-short, lengths-next, total-next}
-use Rattle.descriptor.specs.declared.search.Mark.{Mark}
+use Rattle.descriptor.specs.declared.Mark.{Mark}
 use Rattle.descriptor.specs.Marks.{OnEntry, mark_after, Passable}
 
 -- where an entry stands

@@ -8,22 +8,20 @@ use lib.IntN.{ℤ, pos, negsuc}
 use native.Mathlib.Omega.{arith}
 use borrow.Author.Tests.{ne_eqb}
 use lib.Dec.{T, eqb, eqb→eq, ltb, ltb→lt}
-use lib.ListN.{get_or, get_or-eq_default}
+use lib.ListN.{get_or-eq_default}
 use Rattle.rules.specs.declared.Entry.{Entry}
-use Rattle.rules.specs.Parameter.{Row as TableRow, row_of, rows as table_rows, space, Side, RW, RO, both, Extra, code_mask, min, max, step, Values as Column, numbers, if_in_mask, min_to_max}
-use Rattle.rules.specs.Descriptor.{Position, absent, after, position_of}
+use Rattle.std.specs.Prelude.{Option, None, Some}
+use Rattle.rules.specs.Parameter.{Row as TableRow, row_of, rows as table_rows, space, Side as TableSide, both, Extra, code_mask, min, max, step, Values as Column, numbers, if_in_mask, min_to_max}
+use Rattle.rules.specs.Descriptor.{Position, absent, after, position_of, may_stand}
 use Rattle.rules.specs.Place.{parts_of, width_of}
-use Rattle.rules.proofs.Basics.Tests.{and₂, and₅}
+use Rattle.rules.proofs.Basics.Tests.{and₂, and₃, and₄}
 use Rattle.rules.proofs.Table.Rows.{looked-up}
 use Rattle.rules.proofs.Basics.Ids.{every-id}
-use Rattle.descriptor.specs.Rows.{classes, class_of, row_at, shape_at}
+use Rattle.descriptor.specs.declared.table.Side.{Side}
+use Rattle.descriptor.specs.declared.table.Row.{Row}
+use Rattle.descriptor.specs.Rows.{classes, class_of, row_at}
+use Rattle.descriptor.specs.Decode.{stands_by}
 use Rattle.descriptor.specs.Find.{lowest, highest}
-
--- what the column of sides says, in terms of the table
-abbrev pub side_number : Side → ℕ
-side_number RW = 1
-side_number RO = 2
-side_number both = 3
 
 pub same-test : (a b : Bool) → T (beq a b) → a ≡ b
 same-test true true h = refl
@@ -43,30 +41,35 @@ pub only-then : (a b : Bool) → T (only a b) → T a → T b
 only-then true b h _ = h
 only-then false b h t = absurd t
 
--- a cell of the row of an ID
-abbrev pub cell : ℕ → ℕ → ℕ
-cell id column = get_or (row_at id) column 0
+-- a side lets an ID stand where the table does
+abbrev pub side_test : Side → TableSide → Bool
+side_test x y = beq (stands_by x true) (may_stand y true) && beq (stands_by x false) (may_stand y false)
+
+side-says : (x : Side) (y : TableSide) (ro : Bool) → T (side_test x y) → stands_by x ro ≡ may_stand y ro
+side-says x y true t = let (p, _) = and₂ (beq (stands_by x true) (may_stand y true)) _ t in same-test _ _ p
+side-says x y false t = let (_, p) = and₂ (beq (stands_by x true) (may_stand y true)) _ t in same-test _ _ p
 
 -- a step is the last byte of the least Length, and four codes up to the last one are not reserved
-abbrev pub step_test : ℕ × ℕ → Position → ℕ → ℕ → Bool
-step_test steps absent last least = eqb last 0 && (eqb steps.0 0 && eqb steps.1 0)
-step_test steps (after n) last least = ltb 0 last && (eqb (steps.0 + 3) last && (eqb steps.1 last && eqb (n + 5) least))
+abbrev pub step_test : ℕ × ℕ → Position → Option ℕ → ℕ → Bool
+step_test steps absent None least = eqb steps.0 0 && eqb steps.1 0
+step_test steps absent (Some last) least = false
+step_test steps (after n) None least = false
+step_test steps (after n) (Some last) least = eqb (steps.0 + 3) last && (eqb steps.1 last && eqb (n + 5) least)
 
--- what the checks read says what the table says of an ID
-pub record Row (id : ℕ) : Type 0 where
-  pub least : cell id 0 ≡ (row_of id).least
-  pub needed : cell id 1 ≡ (row_of id).needed
-  pub side : cell id 2 ≡ side_number (row_of id).side
-  pub flags : ltb 3 (cell id 0) ≡ (row_of id).flags
-  pub stepped : T (step_test (row_of id).steps (position_of step (row_of id).extras) (cell id 3) (cell id 0))
+-- what the row of an ID says is what the table says of it
+pub record Says (id : ℕ) : Type 0 where
+  pub least : (row_at id).least ≡ (row_of id).least
+  pub needed : (row_at id).needed ≡ (row_of id).needed
+  pub side : (ro : Bool) → stands_by (row_at id).side ro ≡ may_stand (row_of id).side ro
+  pub flags : ltb 3 (row_at id).least ≡ (row_of id).flags
+  pub stepped : T (step_test (row_of id).steps (position_of step (row_of id).extras) (row_at id).last_step (row_at id).least)
+  pub parts : (row_at id).parts ≡ (row_of id).parts
+  pub width : (row_at id).width ≡ (row_of id).width
 
-abbrev row_test : TableRow → List ℕ → Bool
+abbrev row_test : TableRow → Row → Bool
 row_test r l =
-    eqb (get_or l 0 0) r.least
-    && (eqb (get_or l 1 0) r.needed
-    && (eqb (get_or l 2 0) (side_number r.side)
-    && (beq (ltb 3 (get_or l 0 0)) r.flags
-    && step_test r.steps (position_of step r.extras) (get_or l 3 0) (get_or l 0 0))))
+    (eqb l.least r.least && (eqb l.needed r.needed && (side_test l.side r.side && beq (ltb 3 l.least) r.flags)))
+    && (step_test r.steps (position_of step r.extras) l.last_step l.least && (eqb l.parts r.parts && eqb l.width r.width))
 
 row-tested : (id : ℕ) → T (row_test (row_of id) (row_at id))
 unfolding row_of class_of
@@ -74,25 +77,22 @@ row-tested =
     every-id (λ id. row_test (row_of id) (row_at id)) tt
     λ id l. rw (get_or-eq_default classes 0 {n = id} l, get_or-eq_default table_rows (space both) {n = id} l) tt
 
-pub row : (id : ℕ) → Row id
+pub row : (id : ℕ) → Says id
 row id =
-    let (t₁, t₂, t₃, t₄, t₅) = and₅ (eqb (cell id 0) (row_of id).least) (eqb (cell id 1) (row_of id).needed) (eqb (cell id 2) (side_number (row_of id).side)) (beq (ltb 3 (cell id 0)) (row_of id).flags) _ (row-tested id) in
-    record { least = eqb→eq _ _ t₁; needed = eqb→eq _ _ t₂; side = eqb→eq _ _ t₃; flags = same-test _ _ t₄; stepped = t₅ }
-
--- parts and bits a lane
-abbrev shape_test : TableRow → List ℕ → Bool
-shape_test r l = eqb (get_or l 0 0) r.parts && eqb (get_or l 1 0) r.width
-
-shape-tested : (id : ℕ) → T (shape_test (row_of id) (shape_at id))
-unfolding row_of class_of
-shape-tested =
-    every-id (λ id. shape_test (row_of id) (shape_at id)) tt
-    λ id l. rw (get_or-eq_default classes 0 {n = id} l, get_or-eq_default table_rows (space both) {n = id} l) tt
-
-pub shape : (id : ℕ) → (get_or (shape_at id) 0 0 ≡ (row_of id).parts) × (get_or (shape_at id) 1 0 ≡ (row_of id).width)
-shape id =
-    let (p, w) = and₂ (eqb (get_or (shape_at id) 0 0) (row_of id).parts) (eqb (get_or (shape_at id) 1 0) (row_of id).width) (shape-tested id) in
-    (eqb→eq _ _ p, eqb→eq _ _ w)
+    let r = row_of id in
+    let l = row_at id in
+    let (u, v) = and₂ (eqb l.least r.least && (eqb l.needed r.needed && (side_test l.side r.side && beq (ltb 3 l.least) r.flags))) _ (row-tested id) in
+    let (t₁, t₂, t₃, t₄) = and₄ (eqb l.least r.least) (eqb l.needed r.needed) (side_test l.side r.side) _ u in
+    let (t₅, t₆, t₇) = and₃ (step_test r.steps (position_of step r.extras) l.last_step l.least) (eqb l.parts r.parts) _ v in
+    record {
+      least = eqb→eq _ _ t₁;
+      needed = eqb→eq _ _ t₂;
+      side = λ ro. side-says l.side r.side ro t₃;
+      flags = same-test _ _ t₄;
+      stepped = t₅;
+      parts = eqb→eq _ _ t₆;
+      width = eqb→eq _ _ t₇;
+    }
 
 -- equal numbers
 abbrev pub eq_z : ℤ → ℤ → Bool

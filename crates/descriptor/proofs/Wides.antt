@@ -8,7 +8,6 @@ use lib.IntN.{pos, negsuc}
 use lib.Dec.{T, eqb, ltb}
 use mir.Syntax.{w8}
 use mir.Val.{to_z, sel}
-use lib.ListN.{get_or}
 use Rattle.std.specs.Prelude.{Some, None}
 use Rattle.rules.specs.declared.Entry.{Entry}
 use Rattle.rules.specs.Parameter.{row_of, Extra, code_mask, min, max, step, Values as Column, numbers, if_in_mask, min_to_max}
@@ -18,6 +17,7 @@ use Rattle.rules.specs.Place.{signed_of}
 use Rattle.rules.proofs.Basics.Tests.{and₂, and₃, and₄}
 use Rattle.descriptor.specs.declared.Named.{Named}
 use Rattle.descriptor.specs.declared.Accepted.TheVariants.{Within as within_range}
+use Rattle.descriptor.specs.declared.table.Row.{Row}
 use Rattle.descriptor.specs.declared.table.Values.{Values}
 use Rattle.descriptor.specs.Rows.{place_number, byte_by, values_in, values_of, are_signed}
 use Rattle.descriptor.specs.Wide.{accepted_at, step_at}
@@ -99,15 +99,13 @@ accepted-read a s start offset = (read-says a s start offset).accepted
 
 -- what a call needs of an entry, by the shape of its fields
 pub named-read :
-    (in_ro : Bool) (a : ℕ) (s : List ℕ) (start offset id : ℕ) (l : List ℕ)
+    (in_ro : Bool) (a : ℕ) (s : List ℕ) (start offset id : ℕ) (l : Row)
     → id ≡ byte_at s start
     → ◌≡◌ {A = Named}
     (record {
       ro = in_ro;
       id = id;
-      offset = offset;
-      parts = get_or l 0 0;
-      width = get_or l 1 0;
+      fields = record { offset = offset; parts = l.parts; width = l.width };
       signed = are_signed (values_of id);
       accepted = accepted_at (values_of id) s (start + a);
       step = step_at (values_of id) s (start + a);

@@ -8,13 +8,14 @@ use Rattle.rules.specs.declared.Refusal.TheVariants.{Plain as plain}
 use Rattle.rules.specs.Numbers.{sum}
 use Rattle.rules.specs.Parameter.{Range as TableRange, Values, numbers, if_in_mask, min_to_max, row_of}
 use Rattle.rules.specs.Load.{map_of, read_of}
-use Rattle.rules.specs.Place.{entry, is_rw, is_lane, has_field, parts_of, width_of, signed_of}
+use Rattle.rules.specs.Place.{entry, is_rw, is_set, is_staged, is_lane, has_field, parts_of, width_of, signed_of}
 use Rattle.rules.specs.Accept.{within, in_mask, signed_byte}
 use Rattle.rules.specs.Refuse.{Verdict, passes, refuses, refuse_if, first_of, check9, check_entries}
 use Rattle.rules.specs.Demands.{Accepted as AcceptedMap}
 use Rattle.descriptor.specs.declared.Range.{Range}
 use Rattle.descriptor.specs.declared.Accepted.{Accepted}
 use Rattle.descriptor.specs.declared.Accepted.TheVariants.{Within as within_range, Codes as in_codes}
+use Rattle.descriptor.specs.declared.Fields.{Fields}
 use Rattle.descriptor.specs.declared.Named.{Named}
 
 -- the accepted numbers lie from the first range's beginning to the last one's end
@@ -48,15 +49,17 @@ accepted_of (numbers l) e = within_range (record { low = lowest l; high = highes
 accepted_of (if_in_mask l) e = in_codes (bit_and (code_bits l) e.codes)
 accepted_of min_to_max e = within_range (record { low = signed_byte e.min; high = signed_byte e.max })
 
+-- where its fields lie
+abbrev pub fields_of : Entry → Fields
+fields_of e = record { offset = e.offset; parts = parts_of e; width = width_of e }
+
 -- what a call needs of an entry; the step of 12h alone
 unfoldable pub named_of : Bool → Entry → Named
 named_of in_ro e =
     record {
       ro = in_ro;
       id = e.id;
-      offset = e.offset;
-      parts = parts_of e;
-      width = width_of e;
+      fields = fields_of e;
       signed = signed_of e;
       accepted = accepted_of (row_of e.id).values e;
       step = cond (eqb e.id 0x12) (Some e.step) None;
@@ -101,4 +104,8 @@ found_of count rw ro short e p i =
 
 -- 10 of a part and a lane, for an entry that exists
 unfoldable pub held_in : Named → ℕ → ℕ → Result Named Refusal
-held_in f p i = cond (ltb p f.parts && is_lane i) (Ok f) (Err (plain 10))
+held_in f p i = cond (ltb p f.fields.parts && is_lane i) (Ok f) (Err (plain 10))
+
+-- 10 of a set that doesn't exist, then 11 of an RO entry in a staged set
+unfoldable pub shown_in : Named → ℕ → Result Unit Refusal
+shown_in f s = cond (is_set s) (cond (is_staged s && f.ro) (Err (plain 11)) (Ok tt)) (Err (plain 10))

@@ -1,5 +1,6 @@
 -- What the functions of this crate mean beyond the rules: the rows as they stand in the code, one entry of a walk, and a pass over a string.
 pub mod Rows
+pub mod Limits
 pub mod Ready
 pub mod Counts
 pub mod Decode

@@ -1,7 +1,7 @@
 -- A pass over the entries of a string that the load accepts, by their Lengths and MemoryLengths alone.
 use Rattle.std.specs.Prelude.{List, ℕ, zero, suc, ◌+◌, ◌≤◌, ◌<◌, length}
 use Rattle.rules.specs.Descriptor.{byte_at}
-use Rattle.descriptor.specs.declared.search.Mark.{Mark}
+use Rattle.descriptor.specs.declared.Mark.{Mark}
 
 -- past the entry at a mark: its Length further in the string, its MemoryLength further in a set
 abbrev pub past : ℕ → List ℕ → Mark → Mark

@@ -5,3 +5,9 @@ pub record Ready (a : ℕ) (s : List ℕ) : Type 0 where
   pub mask-low : 1 ≤ a
   pub mask-top : a ≤ 2
   pub short : length s ≤ 120
+
+-- an entry whose bytes can be read: no place of one is past what a number holds
+pub record Readable (a at : ℕ) : Type 0 where
+  pub mask-low : 1 ≤ a
+  pub mask-top : a ≤ 2
+  pub low : at ≤ 120

@@ -1,7 +1,10 @@
 -- The constant rows as lists, and what the fields of an ID hold by the table.
-use Rattle.std.specs.Prelude.{◌≡◌, Bool, true, false, cond, List, [], ◌∷◌, ℕ, ◌+◌, get_or}
+use Rattle.std.specs.Prelude.{Bool, true, false, cond, List, [], ◌∷◌, ℕ, ◌+◌, get_or, Option, None, Some}
 use Rattle.rules.specs.Parameter.{Extra, code_mask, min, max, step, Values as Column, numbers, if_in_mask, min_to_max, row_of}
 use Rattle.rules.specs.Descriptor.{Position, absent, after, position_of}
+use Rattle.descriptor.specs.declared.table.Side.{Side}
+use Rattle.descriptor.specs.declared.table.Side.TheVariants.{Rw as of_rw, Ro as of_ro, Both as of_both}
+use Rattle.descriptor.specs.declared.table.Row.{Row}
 use Rattle.descriptor.specs.declared.table.Values.{Values}
 use Rattle.descriptor.specs.declared.table.Values.TheVariants.{UpTo as up_to, SignedByte as every_byte, Codes as codes_in, MinToMax as between, Stepped as with_step}
 use Rattle.descriptor.specs.Find.{highest, code_bits}
@@ -9,53 +12,40 @@ use Rattle.descriptor.specs.Find.{highest, code_bits}
 abbrev pub classes : List ℕ
 classes = 0 ∷ 1 ∷ 2 ∷ 3 ∷ 4 ∷ 2 ∷ 2 ∷ 5 ∷ 4 ∷ 6 ∷ 6 ∷ 2 ∷ 2 ∷ 7 ∷ 4 ∷ 8 ∷ 8 ∷ 9 ∷ 10 ∷ []
 
--- least Length, bytes needed, side, last step code
-abbrev pub rows : List (List ℕ)
+abbrev row : ℕ → ℕ → Side → Option ℕ → ℕ → ℕ → Row
+row least needed side last parts width = record { least = least; needed = needed; side = side; last_step = last; parts = parts; width = width }
+
+-- of no class
+abbrev pub no_row : Row
+no_row = row 0 0 of_rw None 0 0
+
+-- the first one: 00h, and every ID that no other has
+abbrev pub space : Row
+space = row 3 0 of_both None 0 0
+
+-- least Length, bytes needed, side, last step code, parts, bits a lane
+abbrev pub rows : List Row
 rows =
-    (3 ∷ 0 ∷ 3 ∷ 0 ∷ [])
-    ∷ (3 ∷ 0 ∷ 1 ∷ 0 ∷ [])
-    ∷ (4 ∷ 1 ∷ 1 ∷ 0 ∷ [])
-    ∷ (4 ∷ 2 ∷ 1 ∷ 0 ∷ [])
-    ∷ (6 ∷ 4 ∷ 1 ∷ 0 ∷ [])
-    ∷ (7 ∷ 8 ∷ 1 ∷ 0 ∷ [])
-    ∷ (8 ∷ 8 ∷ 1 ∷ 4 ∷ [])
-    ∷ (8 ∷ 8 ∷ 1 ∷ 3 ∷ [])
-    ∷ (4 ∷ 8 ∷ 1 ∷ 0 ∷ [])
-    ∷ (4 ∷ 16 ∷ 2 ∷ 0 ∷ [])
-    ∷ (6 ∷ 8 ∷ 2 ∷ 3 ∷ [])
+    space
+    ∷ row 3 0 of_rw None 0 0
+    ∷ row 4 1 of_rw None 1 1
+    ∷ row 4 2 of_rw None 1 2
+    ∷ row 6 4 of_rw None 1 4
+    ∷ row 7 8 of_rw None 2 4
+    ∷ row 8 8 of_rw (Some 4) 1 8
+    ∷ row 8 8 of_rw (Some 3) 1 8
+    ∷ row 4 8 of_rw None 1 8
+    ∷ row 4 16 of_ro None 2 8
+    ∷ row 6 8 of_ro (Some 3) 1 8
     ∷ []
-
--- parts, bits a lane
-abbrev pub shapes : List (List ℕ)
-shapes =
-    (0 ∷ 0 ∷ [])
-    ∷ (0 ∷ 0 ∷ [])
-    ∷ (1 ∷ 1 ∷ [])
-    ∷ (1 ∷ 2 ∷ [])
-    ∷ (1 ∷ 4 ∷ [])
-    ∷ (2 ∷ 4 ∷ [])
-    ∷ (1 ∷ 8 ∷ [])
-    ∷ (1 ∷ 8 ∷ [])
-    ∷ (1 ∷ 8 ∷ [])
-    ∷ (2 ∷ 8 ∷ [])
-    ∷ (1 ∷ 8 ∷ [])
-    ∷ []
-
--- lent constants
-pub record Shapes (x : List ℕ) (y : List (List ℕ)) : Type 0 where
-  pub classes-are : x ≡ classes
-  pub shapes-are : y ≡ shapes
 
 -- the class of an ID
 unfoldable pub class_of : ℕ → ℕ
 class_of id = get_or classes id 0
 
--- the rows of an ID
-abbrev pub row_at : ℕ → List ℕ
-row_at id = get_or rows (class_of id) []
-
-abbrev pub shape_at : ℕ → List ℕ
-shape_at id = get_or shapes (class_of id) []
+-- the row of an ID
+abbrev pub row_at : ℕ → Row
+row_at id = get_or rows (class_of id) no_row
 
 -- an extra's place in an entry (+ A): PropertyFlags stand at 3
 abbrev pub place_number : Position → ℕ

@@ -28,7 +28,6 @@ entry_line n e = decimal n ++ line (e.id ∷ e.offset ∷ e.memory ∷ [])
 -- an entry whose line can be printed
 pub record Printable (a : ℕ) (s : List ℕ) (at : ℕ) (st : State) : Type 0 where
   pub inside : at + 2 + a < length s
-  pub short : length s ≤ 120
   pub number : entry_number st < 2 * entry_limit
   pub sum : st.sum < 1000
 

@@ -1,5 +1,5 @@
 -- A walk of the strings: what it is given, how it ends at an entry that fails a check, and how it comes to the RO string.
-use Rattle.std.specs.Prelude.{◌≡◌, cond, List, ℕ, ◌+◌, ◌≤◌, length, Result, Ok, Err}
+use Rattle.std.specs.Prelude.{cond, List, ℕ, ◌+◌, ◌≤◌, Result, Ok, Err}
 use Rattle.rules.specs.declared.Refusal.{Refusal}
 use Rattle.rules.specs.declared.State.{State}
 use Rattle.rules.specs.declared.Refusal.TheVariants.{AtEntry as at_entry}
@@ -8,7 +8,6 @@ use Rattle.descriptor.specs.declared.decode.Past.{Past}
 use Rattle.descriptor.specs.declared.state.Count.{Count}
 use Rattle.descriptor.specs.declared.walk.Stop.{Stop}
 use Rattle.descriptor.specs.declared.walk.Entered.{Entered}
-use Rattle.descriptor.specs.Rows.{classes, rows}
 use Rattle.descriptor.specs.Counts.{count_of, refuses, Small}
 
 -- a refusal of a string alone, with so many entries before the string

@@ -1,15 +1,17 @@
 // One entry of a walk: its checks, 16 and 1 to 7, once for every walk.
-ghost use Rattle.std.specs.Prelude.{◌≡◌, ◌<◌, ◌+◌, length, ltb};
+ghost use Rattle.std.specs.Prelude.{◌≡◌, ◌<◌, ◌+◌, ◌≤◌, length, ltb, IfSome};
 ghost use Rattle.rules.specs.Descriptor.{byte_at, media_side, entry_at, content_checks, entry_limit, unlimited, decode_within, decode_at};
-ghost use Rattle.descriptor.specs.Decode.{decoding_of, StepIn, reserved_by, stands_by, late_by, Standing};
+ghost use Rattle.descriptor.specs.Rows.{row_at};
+ghost use Rattle.descriptor.specs.Decode.{length_at, decoding_of, StepIn, reserved_by, stands_by, late_by, Standing};
 ghost use Rattle.descriptor.specs.Counts.{alone, Small};
 
 use crate::lent::Walk;
-use crate::rows::class_of;
+use crate::rows::row_of;
 use crate::state::Count;
-use crate::table::{LAST_STEP, LEAST, NEEDED, ROWS, SIDE};
+use crate::table::{Row, Side};
 use rules::ENTRY_LIMIT;
 
+// That a place is one of the string is asked of each function here, since it is the loop's test: a struct of both would be made in each turn.
 // Past an entry: the place and the counts after it. A refusal is the number of the check, which is its only name in document 01.
 #[derive(Clone, Copy)]
 pub struct Past {
@@ -26,20 +28,20 @@ pub fn byte_at(s: &[u8], i: usize) -> u8
 
 // 5: whether the step of an entry is a reserved code, by the row of its ID; the entry's start and A are given as one number.
 #[tactic(auto, unfolding(crate::specs::Decode::reserved_by))]
-fn reserved_step(row: [u8; 4], s: &[u8], from: usize) -> bool
-    requires { StepIn row s.now from }
+fn reserved_step(row: Row, s: &[u8], from: usize) -> bool
+    requires { IfSome row.last_step (StepIn row s.now from) }
     ensures { result ≡ reserved_by row s.now from }
 {
-    let last = row[LAST_STEP];
-    if 0 < last {
-        let step = s[from + (row[LEAST] as usize) - 1];
-        return (step < last - 3) | (last < step);
-    }
-    false
+    let Some(last) = row.last_step else {
+        return false;
+    };
+    let step = s[from + (row.least as usize) - 1];
+    !(last - 3..=last).contains(&step)
 }
 
-// Whether an entry with its PropertyFlags at a place is media side, where the least Length has them. (Here and in the next two
-// the tests in one `&&` make the load take 88 ns, for 72, on 16 entries.)
+// Whether an entry with its PropertyFlags at a place is media side, where the least Length has them: a member of the row for
+// that takes LLVM's cost of `scan` over its limit (255 of 250), and the load of a small map 52 ns for 33. (Here and in `late_host` the tests in one
+// `&&` make the load take 88 ns, for 72, on 16 entries.)
 fn media_at(least: u8, s: &[u8], at: usize) -> bool
     requires { 3 < least → at < length s.now }
     ensures { result ≡ media_side (ltb 3 least) (byte_at s.now at) }
@@ -50,14 +52,15 @@ fn media_at(least: u8, s: &[u8], at: usize) -> bool
     false
 }
 
-// Whether an ID of a side (1 RW, 2 RO, 3 both) may stand in a string.
-fn stands(side: u8, in_ro: bool) -> bool
+// Whether an ID of a side may stand in a string.
+fn stands(side: Side, in_ro: bool) -> bool
     ensures { result ≡ stands_by side in_ro }
 {
-    if in_ro {
-        return side / 2 % 2 == 1;
+    match side {
+        Side::Rw => !in_ro,
+        Side::Ro => in_ro,
+        Side::Both => true,
     }
-    side % 2 == 1
 }
 
 // 6: a host-side ID of 02h to 08h after a media-side table entry.
@@ -65,29 +68,48 @@ fn late_host(id: u8, media: bool, passed: bool) -> bool
     ensures { result ≡ late_by id media passed }
 {
     if passed {
-        return (2 <= id) & ((id <= 8) & !media);
+        return (0x02..=0x08).contains(&id) & !media;
     }
     false
 }
 
+// 1 and 2, for the entry at a place, with the row of its ID: its Length.
+pub fn length_at(row: Row, a: usize, s: &[u8], at: usize) -> Result<usize, usize>
+    requires { (row ≡ row_at (byte_at s.now at)) × (at < length s.now) × (a ≤ 2) }
+    ensures { result ≡ length_at a s.now at }
+{
+    if at + 1 == s.len() {
+        return Err(1);
+    }
+    let length = s[at + 1] as usize;
+    if s.len() < at + length {
+        return Err(1);
+    }
+    if length < (row.least as usize) + a {
+        return Err(2);
+    }
+    Ok(length)
+}
+
 impl Walk<'_> {
-    // 3 to 7, for the entry at a place, with the row of its ID; refused, the number of the first check that it fails.
-    fn content(self, row: [u8; 4], at: usize, c: Count) -> Result<Past, usize>
-        requires { Standing row self.a self.s.now at c }
+    // 3 to 7, for the entry at a place, with the row of its ID and its Length; refused, the number of the first check that it fails.
+    fn content(self, row: Row, length: usize, at: usize, c: Count) -> Result<Past, usize>
+        requires standing { Standing row self.a self.s.now at c }
+        requires length_is { length ≡ byte_at self.s.now (at + 1) }
         ensures { result ≡ decoding_of at (alone self.entry.in_ro c) (content_checks (alone self.entry.in_ro c) (entry_at self.entry.a self.entry.s.now at c.sum)) }
     {
         let s = self.s;
-        if !stands(row[SIDE], self.in_ro) {
+        if !stands(row.side, self.in_ro) {
             return Err(3);
         }
         let memory = s[at + 2 + self.a] as usize;
-        if memory < (row[NEEDED] as usize) {
+        if memory < (row.needed as usize) {
             return Err(4);
         }
         if reserved_step(row, s, at + self.a) {
             return Err(5);
         }
-        let media = media_at(row[LEAST], s, at + 3 + self.a);
+        let media = media_at(row.least, s, at + 3 + self.a);
         if late_host(s[at], media, c.media) {
             return Err(6);
         }
@@ -95,7 +117,7 @@ impl Walk<'_> {
             return Err(7);
         }
         Ok(Past {
-            at: at + (s[at + 1] as usize),
+            at: at + length,
             counts: c.next(memory, media),
         })
     }
@@ -106,19 +128,9 @@ impl Walk<'_> {
         requires small { Small c × (c.entries < entry_limit) }
         ensures { result ≡ decoding_of at (alone self.entry.in_ro c) (decode_within unlimited self.entry.a self.entry.s.now at (alone self.entry.in_ro c)) }
     {
-        let s = self.s;
-        if at + 1 == s.len() {
-            return Err(1);
-        }
-        let length = s[at + 1] as usize;
-        if s.len() < at + length {
-            return Err(1);
-        }
-        let row = ROWS[class_of(s[at])];
-        if length < (row[LEAST] as usize) + self.a {
-            return Err(2);
-        }
-        self.content(row, at, c)
+        let row = row_of(self.s[at]);
+        let length = length_at(row, self.a, self.s, at)?;
+        self.content(row, length, at, c)
     }
 
     // The entry at a place: 16, then 1 to 7.

@@ -1,17 +1,20 @@
 // The reading of an entry: what a call needs of the one that it names, and what apply needs of an RW entry. The walks read less.
-ghost use Rattle.std.specs.Prelude.{◌≡◌, ◌≤◌, ◌<◌};
-ghost use Rattle.rules.specs.Descriptor.{byte_at, high_first, entry_at};
+ghost use Rattle.std.specs.Prelude.{◌≡◌, ◌+◌, ◌*◌, ◌≤◌};
+ghost use Rattle.rules.specs.Descriptor.{byte_at, high_first, entry_at, entry_limit};
 ghost use Rattle.rules.specs.Accept.{signed_byte};
 ghost use Rattle.descriptor.specs.Wide.{accepted_at, step_at};
-ghost use Rattle.descriptor.specs.Find.{named_of};
+ghost use Rattle.descriptor.specs.Find.{fields_of, named_of};
+ghost use Rattle.descriptor.specs.Cover.{covered_at};
+ghost use Rattle.descriptor.specs.Ready.{Readable};
 ghost use Rattle.descriptor.specs.Marks.{OnEntry};
-ghost use Rattle.descriptor.specs.Reading.{shape_by, shaped, read_of, patterns_of};
+ghost use Rattle.descriptor.specs.Reading.{row_by, spaced_by, shaped, read_of, patterns_of};
 
 use crate::decode::byte_at;
-use crate::rows::{class_in, class_of};
-use crate::search::{Mark, past};
-use crate::table::{PARTS, SHAPES, Values, WIDTH, values_of};
-use crate::{Accepted, Named, Range, Read};
+use crate::lent::Walk;
+use crate::rows::{class_in, row_of};
+use crate::search::{Hit, past};
+use crate::table::{ROWS, Row, Values, values_of};
+use crate::{Accepted, Covered, Fields, Mark, Named, Range, Read};
 
 // The numbers of a signed byte.
 const SIGNED_BYTE: Range = Range {
@@ -19,136 +22,183 @@ const SIGNED_BYTE: Range = Range {
     high: 127,
 };
 
-// A byte of a string as a number, 0 past its end.
-fn byte_from(s: &[u8], at: usize) -> usize
-    ensures { (result ≡ byte_at s.now at) × (result < 256) }
-{
-    byte_at(s, at) as usize
+// An entry of a string by its start, with A, the bytes of an application mask. A place is that of one of its bytes, behind A.
+#[derive(Clone, Copy)]
+pub struct EntryAt<'a> {
+    pub a: usize,
+    pub s: &'a [u8],
+    pub at: usize,
+    ghost readable: { Readable a at },
 }
 
-// Two bytes of a string as one number, high byte first.
-fn pair_from(s: &[u8], at: usize) -> usize
-    ensures { (result ≡ high_first s.now at 2) × (result < 0x10000) }
-{
-    if at < s.len() {
-        return byte_from(s, at) * 256 + byte_from(s, at + 1);
+impl EntryAt<'_> {
+    fn id(self) -> u8
+        ensures { result ≡ byte_at self.entry.s.now self.entry.at }
+    {
+        byte_at(self.s, self.at)
     }
-    0
-}
 
-// A byte of a string as a signed number.
-fn signed_from(s: &[u8], at: usize) -> i64
-    ensures { result ≡ signed_byte (byte_at s.now at) }
-{
-    i64::from(byte_at(s, at).cast_signed())
-}
+    // The byte at a place, 0 past the string's end.
+    fn byte(self, place: u8) -> u8
+        ensures { result ≡ byte_at self.entry.s.now (self.entry.at + self.entry.a + place) }
+    {
+        byte_at(self.s, self.at + self.a + place as usize)
+    }
 
-// What fields accept, by what they hold.
-#[tactic(auto, unfolding(crate::specs::Wide::accepted_at))]
-pub fn accepted_at(values: Values, s: &[u8], from: usize) -> Accepted
-    requires { from ≤ 500 }
-    ensures { result ≡ accepted_at values s.now from }
-{
-    match values {
-        Values::UpTo(high) => Accepted::Within(Range { low: 0, high }),
-        Values::SignedByte => Accepted::Within(SIGNED_BYTE),
-        Values::Codes(mask, listed) => Accepted::Codes(listed & pair_from(s, from + mask as usize)),
-        Values::MinToMax(min, max) => Accepted::Within(Range {
-            low: signed_from(s, from + min as usize),
-            high: signed_from(s, from + max as usize),
-        }),
-        Values::Stepped(_) => Accepted::Within(SIGNED_BYTE),
+    // The byte at a place as a signed number.
+    fn signed(self, place: u8) -> i64
+        ensures { result ≡ signed_byte (byte_at self.entry.s.now (self.entry.at + self.entry.a + place)) }
+    {
+        i64::from(self.byte(place).cast_signed())
+    }
+
+    // What its fields accept, by what they hold.
+    #[tactic(auto, unfolding(crate::specs::Wide::accepted_at))]
+    pub fn accepted(self, values: Values) -> Accepted
+        ensures { result ≡ accepted_at values self.entry.s.now (self.entry.at + self.entry.a) }
+    {
+        match values {
+            Values::UpTo(high) => Accepted::Within(Range { low: 0, high }),
+            Values::SignedByte => Accepted::Within(SIGNED_BYTE),
+            Values::Codes(mask, listed) => {
+                Accepted::Codes(listed & pair_at(self.s, self.at + self.a + mask as usize) as usize)
+            }
+            Values::MinToMax(min, max) => Accepted::Within(Range {
+                low: self.signed(min),
+                high: self.signed(max),
+            }),
+            Values::Stepped(_) => Accepted::Within(SIGNED_BYTE),
+        }
+    }
+
+    // The step of a 12h entry, the only one that a call asks for.
+    #[tactic(auto, unfolding(crate::specs::Wide::step_at))]
+    fn step(self, values: Values) -> Option<usize>
+        ensures { result ≡ step_at values self.entry.s.now (self.entry.at + self.entry.a) }
+    {
+        if let Values::Stepped(step) = values {
+            return Some(self.byte(step) as usize);
+        }
+        None
+    }
+
+    // What a call needs of it, by its ID and the row of its fields.
+    fn named(self, row: Row, in_ro: bool, sum: usize) -> Named
+        ensures { result ≡ shaped row (named_of in_ro (entry_at self.entry.a self.entry.s.now self.entry.at sum)) }
+    {
+        let id = self.id();
+        let values = values_of(id);
+        Named {
+            ro: in_ro,
+            id: id as usize,
+            fields: fields_by(row, sum),
+            signed: values.are_signed(),
+            accepted: self.accepted(values),
+            step: self.step(values),
+        }
+    }
+
+    // Its application mask.
+    fn mask(self) -> u16
+        ensures { result ≡ high_first self.entry.s.now (self.entry.at + 2) self.entry.a }
+    {
+        let at = self.at + 2;
+        if self.a == 1 {
+            return byte_at(self.s, at) as u16;
+        }
+        pair_at(self.s, at)
+    }
+
+    // What apply needs of an RW entry, by any rows lent.
+    pub fn read(self, classes: &[u8; 19], rows: &[Row; 11], sum: usize) -> Read
+        requires { OnEntry self.a self.s.now (record { at = self.at; sum = sum }) }
+        ensures { result ≡ read_of classes.now rows.now (entry_at self.entry.a self.entry.s.now self.entry.at sum) }
+    {
+        let row = row_in(classes, rows, self.id());
+        let mark = Mark { at: self.at, sum };
+        Read {
+            mask: self.mask(),
+            named: self.named(row, false, sum),
+            next: past(self.a, self.s, mark),
+        }
+    }
+
+    // The accepted patterns of fields of 2 or 4 bits a lane, a bit for each: 0 to 2, or the codes of the table that are in its mask; none of
+    // other fields.
+    pub fn patterns(self) -> usize
+        ensures { result ≡ patterns_of (entry_at self.entry.a self.entry.s.now self.entry.at 0) }
+    {
+        let id = self.id();
+        // Its numbers, the only ones of such fields without a mask.
+        if id == 0x03 {
+            return 0x0007;
+        }
+        match self.accepted(values_of(id)) {
+            Accepted::Codes(codes) => codes,
+            Accepted::Within(_) => 0,
+        }
     }
 }
 
-// The step of a 12h entry, the only one that a call asks for.
-#[tactic(auto, unfolding(crate::specs::Wide::step_at))]
-fn step_at(values: Values, s: &[u8], from: usize) -> Option<usize>
-    requires { from ≤ 500 }
-    ensures { result ≡ step_at values s.now from }
-{
-    if let Values::Stepped(step) = values {
-        return Some(byte_from(s, from + step as usize));
+impl Walk<'_> {
+    // Where the fields of the entry at a mark lie.
+    pub fn fields(self, mark: Mark) -> Fields
+        ensures { result ≡ fields_of (entry_at self.entry.a self.entry.s.now mark.at mark.sum) }
+    {
+        fields_by(row_of(byte_at(self.s, mark.at)), mark.sum)
     }
-    None
-}
 
-// What a call needs of the entry at a place of a string, by its ID and the shape of its fields.
-pub fn named_by(shape: [u8; 2], id: u8, in_ro: bool, a: usize, s: &[u8], mark: Mark) -> Named
-    requires { (id ≡ byte_at s.now mark.at) × (a ≤ 2) × (mark.at ≤ 120) }
-    ensures { result ≡ shaped shape (named_of in_ro (entry_at a s.now mark.at mark.sum)) }
-{
-    let values = values_of(id);
-    let from = mark.at + a;
-    Named {
-        ro: in_ro,
-        id: id as usize,
-        offset: mark.sum,
-        parts: shape[PARTS] as usize,
-        width: shape[WIDTH] as usize,
-        signed: values.are_signed(),
-        accepted: accepted_at(values, s, from),
-        step: step_at(values, s, from),
+    // The entry that a search found, with so many entries before the string, as the one whose space covers a byte.
+    pub fn covered(self, hit: Hit, before: usize, looked: usize) -> Covered
+        requires { before + hit.number ≤ 2 * entry_limit }
+        ensures { result ≡ covered_at self.entry.in_ro self.entry.a self.entry.s.now hit before looked }
+    {
+        Covered {
+            number: before + hit.number,
+            fields: self.fields(hit.mark),
+            looked,
+            ro: self.in_ro,
+        }
+    }
+
+    // What a call needs of the entry at a mark, by the table's own rows.
+    pub fn named(self, mark: Mark) -> Named
+        requires { mark.at ≤ 120 }
+        ensures { result ≡ named_of self.entry.in_ro (entry_at self.entry.a self.entry.s.now mark.at mark.sum) }
+    {
+        let entry = EntryAt {
+            a: self.a,
+            s: self.s,
+            at: mark.at,
+        };
+        entry.named(row_of(entry.id()), self.in_ro, mark.sum)
     }
 }
 
-// The same by the table's own rows.
-pub fn named_at(in_ro: bool, a: usize, s: &[u8], mark: Mark) -> Named
-    requires { (a ≤ 2) × (mark.at ≤ 120) }
-    ensures { result ≡ named_of in_ro (entry_at a s.now mark.at mark.sum) }
+// Where the fields of an entry lie, by its row and its offset.
+fn fields_by(row: Row, sum: usize) -> Fields
+    ensures { result ≡ spaced_by row sum }
 {
-    let id = byte_at(s, mark.at);
-    named_by(SHAPES[class_of(id)], id, in_ro, a, s, mark)
+    Fields {
+        offset: sum,
+        parts: row.parts as usize,
+        width: row.width as usize,
+    }
 }
 
-// The shape of an ID's fields by any rows lent; a class that has no row has no fields.
-#[tactic(auto, unfolding(crate::specs::Reading::shape_by))]
-fn shape_in(classes: &[u8; 19], shapes: &[[u8; 2]; 11], id: u8) -> [u8; 2]
-    ensures { result ≡ shape_by classes.now shapes.now id }
+// Two bytes of a string as one number, high byte first; a byte past the end is 0.
+fn pair_at(s: &[u8], at: usize) -> u16
+    requires { at ≤ 500 }
+    ensures { result ≡ high_first s.now at 2 }
+{
+    u16::from_be_bytes([byte_at(s, at), byte_at(s, at + 1)])
+}
+
+// The row of an ID by any rows lent; a class behind them has that of 00h, which has no fields.
+#[tactic(auto, unfolding(crate::specs::Reading::row_by))]
+fn row_in(classes: &[u8; 19], rows: &[Row; 11], id: u8) -> Row
+    ensures { result ≡ row_by classes.now rows.now id }
 {
     let class = class_in(classes, id) as usize;
-    shapes.get(class).copied().unwrap_or([0, 0])
-}
-
-// An application mask of a bytes.
-fn mask_at(a: usize, s: &[u8], at: usize) -> usize
-    requires { (1 ≤ a) × (a ≤ 2) }
-    ensures { (result ≡ high_first s.now at a) × (result < 0x10000) }
-{
-    if a == 1 {
-        return byte_from(s, at);
-    }
-    pair_from(s, at)
-}
-
-// The entry at a mark of the RW string, by any rows lent.
-pub fn read_at(classes: &[u8; 19], shapes: &[[u8; 2]; 11], a: usize, s: &[u8], mark: Mark) -> Read
-    requires { (1 ≤ a) × (a ≤ 2) × OnEntry a s.now mark }
-    ensures { result ≡ read_of classes.now shapes.now (entry_at a s.now mark.at mark.sum) }
-{
-    let at = mark.at;
-    let id = s[at];
-    let named = named_by(shape_in(classes, shapes, id), id, false, a, s, mark);
-    let after = past(a, s, mark);
-    Read {
-        mask: mask_at(a, s, at + 2),
-        named,
-        next: after.at,
-        end: after.sum,
-    }
-}
-
-// The accepted patterns of an entry with fields of 2 or 4 bits a lane, a bit for each: 0 to 2, or the codes of the table that are in its
-// mask; none of another.
-pub fn patterns_at(id: u8, a: usize, s: &[u8], start: usize) -> usize
-    requires { (id ≡ byte_at s.now start) × (a ≤ 2) × (start ≤ 120) }
-    ensures { result ≡ patterns_of (entry_at a s.now start 0) }
-{
-    if id == 0x03 {
-        return 0x0007;
-    }
-    match accepted_at(values_of(id), s, start + a) {
-        Accepted::Codes(codes) => codes,
-        Accepted::Within(_) => 0,
-    }
+    rows.get(class).copied().unwrap_or(ROWS[0])
 }

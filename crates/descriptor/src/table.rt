@@ -1,53 +1,59 @@
-// Document 01's table with the lines that 02 adds: constant rows, indexed by ID class, their cells in named columns; accepted values
-// by ID. What they say of an ID is proved for every ID. Document 01 asks for constant rows indexed by ID class.
+// Document 01's table with the lines that 02 adds: constant rows, indexed by ID class, as document 01 asks; accepted values by ID. What they say
+// of an ID is proved for every ID. A class is the place of its row and an ID a byte of a string, here and in all crates: document 01 has no
+// other names for them, and a string may have any ID.
 ghost use Rattle.std.specs.Prelude.{◌≡◌};
 ghost use Rattle.descriptor.specs.Rows.{are_signed, values_of};
 
 // The class of each ID below 13h; every ID from 13h on has the class of 00h.
 pub static CLASSES: [u8; 19] = [0, 1, 2, 3, 4, 2, 2, 5, 4, 6, 6, 2, 2, 7, 4, 8, 8, 9, 10];
 
-// What the checks of an entry read: least Length (+ A), bytes needed, the strings that its ID may stand in (1 RW, 2 RO, 3 both),
-// and the last step code that is not reserved (0: no step), the first being three below it. PropertyFlags are read where the least
-// Length has them; the step is its last byte.
-pub const LEAST: usize = 0;
+// The strings that an ID may stand in.
+#[derive(Clone, Copy)]
+pub enum Side {
+    Rw,
+    Ro,
+    Both,
+}
 
-pub const NEEDED: usize = 1;
+// What the table says of a class: least Length (+ A), bytes needed, the strings that its IDs may stand in, the last step code that is not reserved,
+// the first being three below it, and what its fields are: parts, and bits a lane. PropertyFlags are read where the least Length has them; the
+// step is its last byte.
+#[derive(Clone, Copy)]
+pub struct Row {
+    pub least: u8,
+    pub needed: u8,
+    pub side: Side,
+    pub last_step: Option<u8>,
+    pub parts: u8,
+    pub width: u8,
+}
 
-pub const SIDE: usize = 2;
+// A row on a line of its own, in this order.
+macro_rules! row {
+    ($least:expr, $needed:expr, $side:ident, $last_step:expr, $parts:expr, $width:expr) => {
+        Row {
+            least: $least,
+            needed: $needed,
+            side: Side::$side,
+            last_step: $last_step,
+            parts: $parts,
+            width: $width,
+        }
+    };
+}
 
-pub const LAST_STEP: usize = 3;
-
-pub static ROWS: [[u8; 4]; 11] = [
-    [3, 0, 3, 0], // 00h reserves space; 13h to FFh are opaque
-    [3, 0, 1, 0], // 01h: opaque
-    [4, 1, 1, 0], // 02h, 05h, 06h, 0Bh, 0Ch
-    [4, 2, 1, 0], // 03h
-    [6, 4, 1, 0], // 04h, 08h, 0Eh
-    [7, 8, 1, 0], // 07h
-    [8, 8, 1, 4], // 09h, 0Ah
-    [8, 8, 1, 3], // 0Dh
-    [4, 8, 1, 0], // 0Fh, 10h
-    [4, 16, 2, 0], // 11h
-    [6, 8, 2, 3], // 12h
-];
-
-// What the fields of a class are: parts, and bits a lane.
-pub const PARTS: usize = 0;
-
-pub const WIDTH: usize = 1;
-
-pub static SHAPES: [[u8; 2]; 11] = [
-    [0, 0], // 00h, 13h to FFh
-    [0, 0], // 01h
-    [1, 1], // 02h, 05h, 06h, 0Bh, 0Ch
-    [1, 2], // 03h
-    [1, 4], // 04h, 08h, 0Eh
-    [2, 4], // 07h
-    [1, 8], // 09h, 0Ah
-    [1, 8], // 0Dh
-    [1, 8], // 0Fh, 10h
-    [2, 8], // 11h
-    [1, 8], // 12h
+pub static ROWS: [Row; 11] = [
+    row!(3, 0, Both, None, 0, 0), // 00h reserves space; 13h to FFh are opaque
+    row!(3, 0, Rw, None, 0, 0), // 01h: opaque
+    row!(4, 1, Rw, None, 1, 1), // 02h, 05h, 06h, 0Bh, 0Ch
+    row!(4, 2, Rw, None, 1, 2), // 03h
+    row!(6, 4, Rw, None, 1, 4), // 04h, 08h, 0Eh
+    row!(7, 8, Rw, None, 2, 4), // 07h
+    row!(8, 8, Rw, Some(4), 1, 8), // 09h, 0Ah
+    row!(8, 8, Rw, Some(3), 1, 8), // 0Dh
+    row!(4, 8, Rw, None, 1, 8), // 0Fh, 10h
+    row!(4, 16, Ro, None, 2, 8), // 11h
+    row!(6, 8, Ro, Some(3), 1, 8), // 12h
 ];
 
 // The codes that a code mask may allow, a bit for each, and the place of the mask in an entry (+ A): of 04h and 0Eh, 07h and 08h.
@@ -91,6 +97,7 @@ impl Values {
     }
 }
 
+// An arm for each ID: with alternatives in one arm the proof has joins to pass.
 #[tactic(auto, unfolding(crate::specs::Rows::values_of, rules::specs::Parameter::row_of, crate::specs::Find::code_bits, rules::specs::Accept::within, rules::specs::Numbers::sum))]
 pub fn values_of(id: u8) -> Values
     ensures { result ≡ values_of id }

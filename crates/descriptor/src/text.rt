@@ -9,13 +9,14 @@ ghost use Rattle.rules.specs.MapProgram.{decimal, line, end_line, refused_line, 
 ghost use Rattle.descriptor.specs.Lent.{over};
 ghost use Rattle.descriptor.specs.Text.{Adds, Printed, entry_line, Printable, Listing};
 
+use crate::Descriptors;
 use crate::lent::Walk;
 use crate::state::{Count, entry_number, into_ro, start};
-use crate::{Descriptors, mask_bytes};
 use rules::{Refusal, State};
 
 // The text so far: the first bytes of the buffer that is lent. What follows them is as it was. It isn't written by `write!`, which
-// promises its text of an Ok alone, and printing can't fail; nor has it a model, since a list would not say whose buffer holds it.
+// promises its text of an Ok alone, and printing can't fail; nor has it a model, since a list would not say whose buffer holds it. Each method asks
+// for the room of what it adds, and for numbers below 1000, which is no fact of the text: a type for these would be made at each call of one.
 #[derive(Drop)]
 struct Text<'a> {
     out: &'a mut [u8; 1024],
@@ -86,13 +87,13 @@ impl Text<'_> {
     }
 
     // The line of the entry at a place of a string.
-    fn entry(&mut self, a: usize, s: &[u8], from: usize, st: State)
-        requires printable { Printable a s.now from st }
+    fn entry(&mut self, walk: Walk, from: usize, st: State)
+        requires printable { Printable walk.a walk.s.now from st }
         requires room { self.old.length + 16 ≤ 1024 }
-        ensures { Adds 16 (entry_line (entry_number st) (entry_at a s.now from st.sum)) self.old self.new }
+        ensures { Adds 16 (entry_line (entry_number st) (entry_at walk.entry.a walk.entry.s.now from st.sum)) self.old self.new }
     {
-        let id = s[from] as usize;
-        let memory = s[from + 2 + a] as usize;
+        let id = walk.s[from] as usize;
+        let memory = walk.s[from + 2 + walk.a] as usize;
         self.decimal(entry_number(st));
         self.line(&[id, st.sum as usize, memory])
     }
@@ -105,14 +106,13 @@ impl Text<'_> {
         requires in_ro { walk.in_ro ≡ begin.ro }
         ensures { Listing walk.entry.a walk.entry.s.now begin self.old self.new result }
     {
-        let s = walk.s;
         let mut from = 0;
         let mut st = begin;
-        while from < s.len() {
+        while from < walk.s.len() {
             let Ok(past) = walk.decode(from, Count::from(st)) else {
                 return st;
             };
-            self.entry(walk.a, s, from, st);
+            self.entry(walk, from, st);
             from = past.at; // behind the entry, by its Length
             st = past.counts.within(st);
         }
@@ -130,17 +130,6 @@ impl Text<'_> {
     }
 }
 
-// The number of a refusal.
-fn number_of(r: Refusal) -> usize
-    ensures { result ≡ number_of r }
-{
-    match r {
-        Refusal::Plain(n) => n,
-        Refusal::AtEntry(n, _) => n,
-        Refusal::AtLane(n, _) => n,
-    }
-}
-
 // "refused" and the number.
 pub fn put_refused(out: &mut [u8; 1024], r: Refusal) -> usize
     requires { number_of r < 1000 }
@@ -148,7 +137,7 @@ pub fn put_refused(out: &mut [u8; 1024], r: Refusal) -> usize
 {
     let mut text = Text { out, length: 0 };
     text.push_text(b"refused");
-    text.line(&[number_of(r)]);
+    text.line(&[r.number()]);
     text.length
 }
 
@@ -157,21 +146,10 @@ fn put_map(desc: Descriptors, out: &mut [u8; 1024]) -> usize
     requires { over Accepted desc }
     ensures { Printed (map_text (over load_of desc.entry) (over entries_of desc.entry)) out.old result out.new }
 {
-    let a = mask_bytes(desc.count);
     let mut text = Text { out, length: 0 };
     text.push_text(b"entry id offset length\n");
-    let rw = Walk {
-        a,
-        s: desc.rw,
-        in_ro: false,
-    };
-    let m = text.entries(rw, start());
-    let ro = Walk {
-        a,
-        s: desc.ro,
-        in_ro: true,
-    };
-    let e = text.entries(ro, into_ro(m));
+    let m = text.entries(desc.walk(false), start());
+    let e = text.entries(desc.walk(true), into_ro(m));
     text.end(m.sum as usize, e.sum as usize);
     text.length
 }

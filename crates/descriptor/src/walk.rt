@@ -26,8 +26,8 @@ impl Stop {
     }
 }
 
-// What the walk makes of a decode that ends it: a refusal with its entry's place among those of the string (`let .. else` doesn't bind the
-// number that the refusal leaves with; past an entry, its counts).
+// What the walk makes of a decode that ends it: a refusal with its entry's place among those of the string (document 01 asks for `let .. else`, which
+// doesn't bind the number that the refusal leaves with; past an entry, its counts).
 fn stopped(decoded: Result<Past, usize>, entries: usize) -> Result<Count, Stop>
     ensures { result ≡ stopped_of decoded entries }
 {
@@ -38,7 +38,7 @@ fn stopped(decoded: Result<Past, usize>, entries: usize) -> Result<Count, Stop>
 }
 
 impl Walk<'_> {
-    // The walk of the string from its beginning on, or of its first entry alone: the counts at its end. `pass_in` asks for the first entry
+    // The walk of the string from its beginning on, or of its first entry alone: the counts at its end. `pass` asks for the first entry
     // here, since the compiler leaves `decode` a call where the load has it a second time
     // (the load then takes 2.7 times as long; with `scan` larger by a test too).
     pub fn scan(self, one: bool, begin: Count) -> Result<Count, Stop>
@@ -62,6 +62,47 @@ impl Walk<'_> {
         }
         Ok(c)
     }
+
+    // The walk of the RW string, up to the RO string. That a walk is of its state's string is asked here, of `pass` and of the text's `entries`: a
+    // state comes from outside, and each caller has just chosen the string by it.
+    pub fn to_ro(self, begin: State) -> Result<Entered, Refusal>
+        requires { self.in_ro ≡ false }
+        ensures answer { result ≡ entered_by self.entry.a self.entry.s.now begin }
+        ensures small { SmallEntered result }
+    {
+        if begin.ro {
+            return Ok(Entered {
+                before: begin.before as usize,
+                staged: begin.staged as usize,
+                counts: Count::from(begin),
+            });
+        }
+        match self.scan(false, Count::from(begin)) {
+            Err(stop) => Err(stop.after(begin.before as usize)),
+            Ok(c) => Ok(Entered {
+                before: c.entries,
+                staged: c.sum,
+                counts: Count { entries: 0, ..c },
+            }),
+        }
+    }
+
+    // The first entry of the string, for a load that keeps a state in it.
+    pub fn pass(self, st: State) -> Result<Option<Passed>, Refusal>
+        requires { self.in_ro ≡ st.ro }
+        ensures { result ≡ pass_in self.entry.a self.entry.s.now st }
+    {
+        if self.s.len() == 0 {
+            return Ok(None);
+        }
+        match self.scan(true, Count::from(st)) {
+            Err(stop) => Err(stop.after(st.before as usize)),
+            Ok(c) => Ok(Some(Passed {
+                state: c.within(st),
+                length: self.s[1] as usize,
+            })),
+        }
+    }
 }
 
 // Where the RO string begins or goes on: how many entries stand before it, the staged length, and the counts.
@@ -70,49 +111,4 @@ pub struct Entered {
     pub before: usize,
     pub staged: usize,
     pub counts: Count,
-}
-
-// The walk up to the RO string.
-pub fn to_ro(walk: Walk, begin: State) -> Result<Entered, Refusal>
-    requires { walk.in_ro ≡ false }
-    ensures answer { result ≡ entered_by walk.entry.a walk.entry.s.now begin }
-    ensures small { SmallEntered result }
-{
-    if begin.ro {
-        return Ok(Entered {
-            before: begin.before as usize,
-            staged: begin.staged as usize,
-            counts: Count::from(begin),
-        });
-    }
-    match walk.scan(false, Count::from(begin)) {
-        Err(stop) => Err(stop.after(begin.before as usize)),
-        Ok(c) => Ok(Entered {
-            before: c.entries,
-            staged: c.sum,
-            counts: Count {
-                entries: 0,
-                sum: c.sum,
-                media: c.media,
-            },
-        }),
-    }
-}
-
-// The first entry of a string, for a load that keeps a state.
-pub fn pass_in(a: usize, s: &[u8], st: State) -> Result<Option<Passed>, Refusal>
-    requires { (1 ≤ a) × (a ≤ 2) × (length s.now ≤ 120) }
-    ensures { result ≡ pass_in a s.now st }
-{
-    if s.len() == 0 {
-        return Ok(None);
-    }
-    let walk = Walk { a, s, in_ro: st.ro };
-    match walk.scan(true, Count::from(st)) {
-        Err(stop) => Err(stop.after(st.before as usize)),
-        Ok(c) => Ok(Some(Passed {
-            state: c.within(st),
-            length: s[1] as usize,
-        })),
-    }
 }

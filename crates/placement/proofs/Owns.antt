@@ -23,6 +23,7 @@ use Rattle.rules.proofs.Place.OwnerAt.{owner-field, owner-surplus}
 use Rattle.rules.proofs.Place.PlaceCalls.{owner-refused, owner-10, owner-is, space-in-set, space-held}
 use Rattle.rules.proofs.Bank.Places.{named-has-bytes}
 use Rattle.descriptor.proofs.TableRows.{parts-few, width-narrow}
+use Rattle.descriptor.specs.declared.Fields.{Fields}
 use Rattle.descriptor.specs.declared.Covered.{Covered}
 use Rattle.descriptor.specs.Cover.{cover_of}
 use Rattle.descriptor.proofs.Covers.{Covering, cover-refused, cover-none, cover-one}
@@ -37,7 +38,7 @@ pub owns-none :
 owns-none count first last s k q ok past =
     owner-10 count first last s k q ok (rw (le-ltb k (length_of (map_of count first last) s) (past s)) (and-no (is_set s)))
 
-module _ (count : ℕ) (first last : List ℕ) {k : ℕ} {in_ro : Bool} {n o parts width : ℕ} (c : Covering count first last k in_ro n o parts width) (s q : ℕ) where
+module _ (count : ℕ) (first last : List ℕ) {k : ℕ} {in_ro : Bool} {n : ℕ} {f : Fields} (c : Covering count first last k in_ro n f) (s q : ℕ) where
   abbrev m : Map
   m = map_of count first last
 
@@ -51,9 +52,9 @@ module _ (count : ℕ) (first last : List ℕ) {k : ℕ} {in_ro : Bool} {n o par
   owns-10 : has_space s in_ro q ≡ false → Err (plain 10) ≡ owner_call count first last s k q
   owns-10 h = owner-10 count first last s k q c.ok (bit-is ∙ h)
 
-  owns-near : (parts < 16) × (width < 16) × (o ≤ k) × (k - o ≤ 256)
+  owns-near : (f.parts < 16) × (f.width < 16) × (f.offset ≤ k) × (k - f.offset ≤ 256)
   owns-near =
-      let z : (entry m n).offset ≡ o = c.offset-is in
+      let z : (entry m n).offset ≡ f.offset = c.offset-is in
       (rw (← c.parts-is) (parts-few (entry m n)), rw (← c.width-is) (width-narrow (entry m n)), omega (arith, c.low), omega (arith, c.top, entry-fits count first last c.ok n c.there))
 
   module _ (h : has_space s in_ro q ≡ true) where
@@ -88,7 +89,7 @@ module _ (count : ℕ) (first last : List ℕ) {k : ℕ} {in_ro : Bool} {n o par
             let l : parts_of (entry m n) * width_of (entry m n) ≤ k - (entry m n).offset = ltb-false _ _ x in
             sym (ap (owned_as (looked_at m k)) (owner-surplus m g s k q (named-has-bytes s set) bit n held (omega (arith, c.low)) c.top))
 
-    owns-field : {z : ℕ} → looked_at (map_of count first last) k ≡ z → field_in n parts width z (k - o) q ≡ owner_call count first last s k q
+    owns-field : {z : ℕ} → looked_at (map_of count first last) k ≡ z → field_in n f.parts f.width z (k - f.offset) q ≡ owner_call count first last s k q
     owns-field counts =
         rw (← c.parts-is, ← c.width-is, ← c.offset-is, ← counts) in-entry
         ∙ owner-is count first last s k q c.ok (bit-is ∙ h)
@@ -99,7 +100,7 @@ module _ (count : ℕ) (first last : List ℕ) (k : ℕ) where
   near = go (cover_of count first last k) refl
     where
       go : (x : Result (Option Covered) Refusal) → cover_of count first last k ≡ x → Near x k
-      go (Ok (Some c)) e = owns-near count first last (cover-one count first last k _ _ _ _ _ _ e).0 0 0
+      go (Ok (Some c)) e = owns-near count first last (cover-one count first last k _ _ _ _ e).0 0 0
       go (Ok None) e = tt
       go (Err r) e = tt
 
@@ -109,11 +110,11 @@ module _ (count : ℕ) (first last : List ℕ) (k : ℕ) where
       go : (x : Result (Option Covered) Refusal) → cover_of count first last k ≡ x → owned_from x s k q ≡ owner_call count first last s k q
       go (Ok (Some c)) e = at (has_space s c.ro q) refl
         where
-          both : Covering count first last k c.ro c.number c.offset c.parts c.width × (looked_at (map_of count first last) k ≡ c.looked)
-          both = cover-one count first last k c.ro c.number c.offset c.parts c.width c.looked e
+          both : Covering count first last k c.ro c.number c.fields × (looked_at (map_of count first last) k ≡ c.looked)
+          both = cover-one count first last k c.ro c.number c.fields c.looked e
 
           at : (b : Bool) → has_space s c.ro q ≡ b
-              → cond b (field_in c.number c.parts c.width c.looked (k - c.offset) q) (Err (plain 10)) ≡ owner_call count first last s k q
+              → cond b (field_in c.number c.fields.parts c.fields.width c.looked (k - c.fields.offset) q) (Err (plain 10)) ≡ owner_call count first last s k q
           at true h = owns-field count first last both.0 s q h both.1
           at false h = owns-10 count first last both.0 s q h
       go (Ok None) e = let (ok, past) = cover-none count first last k e in owns-none count first last s k q ok past

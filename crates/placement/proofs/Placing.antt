@@ -24,10 +24,10 @@ module _ (count : ℕ) (first last : List ℕ) {e p i : ℕ} {f : Named} (z : In
   abbrev m : Map
   m = map_of count first last
 
-  pub offset-small : f.offset ≤ 256
+  pub offset-small : f.fields.offset ≤ 256
   offset-small = rw (offset-is count first last z) (omega (arith, entry-fits count first last z.ok e (there count first last z)))
 
-  pub width-small : f.width < 16
+  pub width-small : f.fields.width < 16
   width-small = rw (width-is count first last z) (width-narrow (entry m e))
 
   -- the part and the lane are there
@@ -47,5 +47,5 @@ module _ (count : ℕ) (first last : List ℕ) {e p i : ℕ} {f : Named} (z : In
 
       pub placing-at :
           (is_staged s && f.ro) ≡ false
-          → placed_in s (f.offset + p * f.width + (i - 1) * f.width / 8) ((i - 1) * f.width % 8) ≡ place_of count first last s e p i
+          → placed_in s (f.fields.offset + p * f.fields.width + (i - 1) * f.fields.width / 8) ((i - 1) * f.fields.width % 8) ≡ place_of count first last s e p i
       placing-at t = rw (width-is count first last z, offset-is count first last z) (place-at count first last s e p i z.ok z.has h (rw (side-is count first last z) at t))

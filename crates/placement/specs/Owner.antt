@@ -17,12 +17,12 @@ abbrev pub has_space : ℕ → Bool → ℕ → Bool
 has_space s ro q = is_set s && (not (is_staged s && ro) && ltb q 8)
 
 abbrev pub owned_from : Result (Option Covered) Refusal → ℕ → ℕ → ℕ → Result Owned Refusal
-owned_from (Ok (Some c)) s k q = cond (has_space s c.ro q) (field_in c.number c.parts c.width c.looked (k - c.offset) q) (Err (plain 10))
+owned_from (Ok (Some c)) s k q = cond (has_space s c.ro q) (field_in c.number c.fields.parts c.fields.width c.looked (k - c.fields.offset) q) (Err (plain 10))
 owned_from (Ok None) s k q = Err (plain 10)
 owned_from (Err r) s k q = Err r
 
 -- the entry's numbers are small, and its space has byte k
 abbrev pub Near : Result (Option Covered) Refusal → ℕ → Type 0
-Near (Ok (Some c)) k = (c.parts < 16) × (c.width < 16) × (c.offset ≤ k) × (k - c.offset ≤ 256)
+Near (Ok (Some c)) k = (c.fields.parts < 16) × (c.fields.width < 16) × (c.fields.offset ≤ k) × (k - c.fields.offset ≤ 256)
 Near (Ok None) k = Unit {0}
 Near (Err r) k = Unit {0}

@@ -65,7 +65,7 @@ fn line_of(set: usize) -> Line
     }
 }
 
-// The address of an offset of a set, where the table gives it one.
+// The address of an offset of a set, where the table gives it one. The two pages, here and below, differ in what comes before them.
 pub fn address_of(set: usize, offset: usize) -> Option<Address>
     ensures { result ≡ address_is set offset }
 {

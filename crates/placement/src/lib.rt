@@ -26,36 +26,31 @@ fn placed_in(set: usize, offset: usize, bit: usize) -> Placed
 }
 
 // Place: a field's offset in a set, its page and byte by Table 4-1, and its lowest bit there; refused as read is. The two numbers are those of
-// `place_of` of control_set, which is private as every function is that not all arguments suit.
+// `Place::of` of control_set, which is private as every function is that not all arguments suit.
 pub fn place(desc: Descriptors, set: usize, field: Field) -> Result<Placed, Refusal>
     ensures { result ≡ over place_of desc.entry set field.entry field.part field.lane }
 {
     // Place takes no bank: none is too short.
     let f = desc.find(false, field)?;
-    if !(set < 3) {
-        return Err(Refusal::Plain(10));
-    }
-    if (set < 2) & f.ro {
-        return Err(Refusal::Plain(11));
-    }
-    let first = (field.lane - 1) * f.width;
-    let offset = f.offset + field.part * f.width + first / 8;
+    f.shown(set)?;
+    let first = (field.lane - 1) * f.fields.width;
+    let offset = f.fields.offset + field.part * f.fields.width + first / 8;
     Ok(placed_in(set, offset, first % 8))
 }
 
 // The field that has a bit of the space of the entry that covers it, the byte counted from the entry's offset: the lanes of all parts in a row,
 // W bits each, 8 to a part. With the number of entries looked at.
 fn field_in(c: Covered, byte: usize, bit: usize) -> Owned
-    requires { (c.parts < 16) × (c.width < 16) × (byte ≤ 256) × (bit < 8) }
-    ensures { Ok result ≡ field_in c.number c.parts c.width c.looked byte bit }
+    requires { (c.fields.parts < 16) × (c.fields.width < 16) × (byte ≤ 256) × (bit < 8) }
+    ensures { Ok result ≡ field_in c.number c.fields.parts c.fields.width c.looked byte bit }
 {
-    if !(byte < c.parts * c.width) {
+    if !(byte < c.fields.parts * c.fields.width) {
         return Owned {
             field: None,
             looked: c.looked,
         };
     }
-    let before = (byte * 8 + bit) / c.width;
+    let before = (byte * 8 + bit) / c.fields.width;
     Owned {
         field: Some(Field {
             entry: c.number,
@@ -74,10 +69,11 @@ fn owned(covered: Option<Covered>, set: usize, offset: usize, bit: usize) -> Res
     let Some(c) = covered else {
         return Err(Refusal::Plain(10));
     };
-    if !((set < 3) & (!((set < 2) & c.ro) & (bit < 8))) {
+    c.spaced(set)?;
+    if !(bit < 8) {
         return Err(Refusal::Plain(10));
     }
-    Ok(field_in(c, offset - c.offset, bit))
+    Ok(field_in(c, offset - c.fields.offset, bit))
 }
 
 // Owner: the field that a bit of a set belongs to, none in a gap, and the number of entries looked at.

@@ -5,7 +5,7 @@ ghost use Rattle.std.specs.Prelude.{◌≡◌, length};
 ghost use Rattle.rules.specs.Reader.{take_of};
 ghost use Rattle.reader.specs.Take.{EndsWithin, taking_of, reader_of, taken_by, moved_by};
 
-use descriptor::{Descriptors, least_length};
+use descriptor::Descriptors;
 use rules::{Refusal, Taken};
 
 // What a reader takes, and the position after it: another one only past an entry.
@@ -16,7 +16,6 @@ pub struct Taking {
 }
 
 // What is taken from a string at a position: 9, the end, 1, 2, and the entry.
-#[tactic(auto, unfolding(rules::specs::Reader::take_of, rules::specs::Descriptor::length_checks, rules::specs::Descriptor::refuse))]
 fn take_at(count: usize, s: &[u8], at: usize) -> Result<Option<Taken>, Refusal>
     ensures answer { result ≡ take_of count s.now at }
     ensures inside { EndsWithin (length s.now) result }
@@ -26,23 +25,11 @@ fn take_at(count: usize, s: &[u8], at: usize) -> Result<Option<Taken>, Refusal>
         rw: s,
         ro: &s[..0],
     };
-    if !alone.limits() {
-        return Err(Refusal::Plain(9));
-    }
+    alone.check_limits()?;
     if s.len() <= at {
         return Ok(None);
     }
-    let left = s.len() - at;
-    if left == 1 {
-        return Err(Refusal::Plain(1));
-    }
-    let length = usize::from(s[at + 1]);
-    if left < length {
-        return Err(Refusal::Plain(1));
-    }
-    if length < least_length(count, s[at]) {
-        return Err(Refusal::Plain(2));
-    }
+    let length = alone.length_read(at)?;
     Ok(Some(Taken { start: at, length }))
 }
 

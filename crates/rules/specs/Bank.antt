@@ -74,11 +74,11 @@ bank_holds_bad m b s lanes i =
 -- "The host's plan, at apply": 13 before 14
 unfoldable pub bank_plan : Map → Call → Bank → List Verdict
 bank_plan m (select s i a) b = []
-bank_plan m (write s e p i v) b = []
-bank_plan m (read s e p i) b = []
+bank_plan m (write s f v) b = []
+bank_plan m (read s f) b = []
 bank_plan m (byte_write s k v) b = []
 bank_plan m (byte_read s k) b = []
-bank_plan m (publish e p i v) b = []
+bank_plan m (publish f v) b = []
 bank_plan m (apply s lanes) b = at_lowest 13 (bank_lacks_app m b s lanes) ∷ at_lowest 14 (bank_holds_bad m b s lanes) ∷ []
 
 -- f (n - 1) (.. (f 0 b))
@@ -100,15 +100,15 @@ unfoldable pub bank_does : Map → Call → Bank → Result Answer Refusal × Ba
 -- "stores AppSel"
 bank_does m (select s i a) b = (says_yes, set b (app_sel_at s i) a)
 -- "stores an accepted value"
-bank_does m (write s e p i v) b = (says_yes, with_number m b s e p i v)
+bank_does m (write s f v) b = (says_yes, with_number m b s f.entry f.part f.lane v)
 -- "answers the number"
-bank_does m (read s e p i) b = (number (number_in m b s e p i), b)
+bank_does m (read s f) b = (number (number_in m b s f.entry f.part f.lane), b)
 -- "each field in that byte takes its own bits, accepted value or not; gaps become 0"
 bank_does m (byte_write s k v) b = (says_yes, set b (set_start s + k) (field_bits m s k v))
 -- "the sum of each field there .. gaps show 0"
 bank_does m (byte_read s k) b = (number (pos (field_bits m s k (get_or b (set_start s + k) 0))), b)
 -- "as write, into set 2"
-bank_does m (publish e p i v) b = (says_yes, with_number m b 2 e p i v)
+bank_does m (publish f v) b = (says_yes, with_number m b 2 f.entry f.part f.lane v)
 -- "copied to the active set"
 bank_does m (apply s lanes) b = (says_yes, apply_bank m s lanes b)
 

@@ -1,7 +1,7 @@
 -- "Beside demand 3": place, owner, the entry call with the call beside it, and weight. None of them writes a byte. Each is said of what
 -- is read of the strings.
 use Rattle.std.specs.Prelude.{Bool, ◌&&◌, not, cond, List, [], ◌∷◌, ℕ, suc, ◌+◌, length, take, drop, ltb, leb, eqb, Result, Err}
-use Rattle.rules.specs.Words.{plain, Entry, read, Answer, says_yes, number, Placed, placed_at, Owned, owned_by, no_owner, Refusal}
+use Rattle.rules.specs.Words.{plain, Entry, read, the_field, Answer, says_yes, number, Placed, placed_at, Owned, owned_by, no_owner, Refusal}
 use Rattle.rules.specs.Load.{Map, Reading, read_of}
 use Rattle.rules.specs.Place.{entry, is_set, is_rw, is_lane, length_of, field_byte, field_bit, Owner, field, gap, owner_of}
 use Rattle.rules.specs.Accept.{weight_of}
@@ -19,7 +19,7 @@ placed (refuses r) x = Err r
 
 abbrev pub place_on : Reading → ℕ → ℕ → ℕ → ℕ → Result Placed Refusal
 place_on r s e p i =
-    placed (order_of r (judge r.map (read s e p i))) (placed_in s (field_byte (entry r.map e) p i) (field_bit (entry r.map e) i))
+    placed (order_of r (judge r.map (read s (the_field e p i)))) (placed_in s (field_byte (entry r.map e) p i) (field_bit (entry r.map e) i))
 
 unfoldable pub place_of : ℕ → List ℕ → List ℕ → ℕ → ℕ → ℕ → ℕ → Result Placed Refusal
 place_of count rw ro s e p i = place_on (read_of count rw ro) s e p i

@@ -107,31 +107,31 @@ HasField m e p i = (e < length m.entries) × (p < parts_of (entry m e)) × Lane 
 
 abbrev pub Exists : Map → Call → Type 0
 Exists m (select s i a) = (s < 3) × Lane i
-Exists m (write s e p i v) = (s < 3) × HasField m e p i
-Exists m (read s e p i) = (s < 3) × HasField m e p i
+Exists m (write s f v) = (s < 3) × HasField m f.entry f.part f.lane
+Exists m (read s f) = (s < 3) × HasField m f.entry f.part f.lane
 Exists m (byte_write s k v) = (s < 3) × (k < length_of m s)
 Exists m (byte_read s k) = (s < 3) × (k < length_of m s)
-Exists m (publish e p i v) = HasField m e p i
+Exists m (publish f v) = HasField m f.entry f.part f.lane
 Exists m (apply s lanes) = s < 3
 
 -- 11: "write, byte write, select or apply on set 2; an RO entry in a staged set; publish to an RW entry"
 abbrev pub Misdirected : Map → Call → Type 0
 Misdirected m (select s i a) = s ≡ 2
-Misdirected m (write s e p i v) = (s ≡ 2) ⊎ (m.rw_count ≤ e)
-Misdirected m (read s e p i) = (s < 2) × (m.rw_count ≤ e)
+Misdirected m (write s f v) = (s ≡ 2) ⊎ (m.rw_count ≤ f.entry)
+Misdirected m (read s f) = (s < 2) × (m.rw_count ≤ f.entry)
 Misdirected m (byte_write s k v) = s ≡ 2
 Misdirected m (byte_read s k) = ⊥
-Misdirected m (publish e p i v) = e < m.rw_count
+Misdirected m (publish f v) = f.entry < m.rw_count
 Misdirected m (apply s lanes) = s ≡ 2
 
 -- 12: "value or app not accepted"
 abbrev pub Unaccepted : Map → Call → Type 0
 Unaccepted m (select s i a) = m.count < a
-Unaccepted m (write s e p i v) = ¬ (Accepts (entry m e) v)
-Unaccepted m (read s e p i) = ⊥
+Unaccepted m (write s f v) = ¬ (Accepts (entry m f.entry) v)
+Unaccepted m (read s f) = ⊥
 Unaccepted m (byte_write s k v) = ⊥
 Unaccepted m (byte_read s k) = ⊥
-Unaccepted m (publish e p i v) = ¬ (Accepts (entry m e) v)
+Unaccepted m (publish f v) = ¬ (Accepts (entry m f.entry) v)
 Unaccepted m (apply s lanes) = ⊥
 
 -- The host's plan, "at apply, with the lowest such lane"
@@ -164,11 +164,11 @@ pub record HoldsBad (m : Map) (b : Bank) (s lanes i : ℕ) : Type 0 where
 
 abbrev pub plan_rules : Map → Call → Bank → List (Rule Refusal)
 plan_rules m (select s i a) b = []
-plan_rules m (write s e p i v) b = []
-plan_rules m (read s e p i) b = []
+plan_rules m (write s f v) b = []
+plan_rules m (read s f) b = []
 plan_rules m (byte_write s k v) b = []
 plan_rules m (byte_read s k) b = []
-plan_rules m (publish e p i v) b = []
+plan_rules m (publish f v) b = []
 plan_rules m (apply s lanes) b =
     (λ x. (i : ℕ) × (x ≡ at_lane 13 i) × Lowest (LacksApp m b s lanes) i)
     ∷ (λ x. (i : ℕ) × (x ≡ at_lane 14 i) × Lowest (HoldsBad m b s lanes) i)

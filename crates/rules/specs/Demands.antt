@@ -1,6 +1,6 @@
 -- The statements: the three demands and the twelve settings. proofs/Demands.antt proves each.
 use Rattle.std.specs.Prelude.{◌≡◌, ◌↔◌, true, false, ◌||◌, cond, List, [], ◌∷◌, ◌++◌, ℕ, suc, ◌+◌, ◌≤◌, ◌<◌, ℤ, pos, negsuc, length, get_or, take, drop, T, eqb, Result, Err}
-use Rattle.rules.specs.Words.{Refusal, plain, at_entry, Entry, State, accepted, Call, read, Answer, placed_at, owned_by, no_owner, no_more}
+use Rattle.rules.specs.Words.{Refusal, plain, at_entry, Entry, State, accepted, Call, read, the_field, Answer, placed_at, owned_by, no_owner, no_more}
 use Rattle.rules.specs.Numbers.{cut}
 use Rattle.rules.specs.Descriptor.{mask_bytes, has_app, byte_at, entry_at, decode_at}
 use Rattle.rules.specs.Load.{start, into_ro, entry_number, Map, load_of, rw_entries, ro_entries, total, map_of}
@@ -48,7 +48,7 @@ pub record Refusals (count : ℕ) (rw ro : List ℕ) (b : Bank) : Type 0 where
   pub fresh : (x : Refusal) → ((fresh_call count rw ro b).0 ≡ Err x) ↔ First (bank_rules count rw ro b []) x
   pub load : (x : Refusal) → (load_of count rw ro ≡ Err x) ↔ First (string_rules count rw ro []) x
   pub place : (s e p i : ℕ) (x : Refusal)
-      → (place_of count rw ro s e p i ≡ Err x) ↔ First (string_rules count rw ro (call_rules (map_of count rw ro) (read s e p i))) x
+      → (place_of count rw ro s e p i ≡ Err x) ↔ First (string_rules count rw ro (call_rules (map_of count rw ro) (read s (the_field e p i)))) x
   pub owner : (s k q : ℕ) (x : Refusal)
       → (owner_call count rw ro s k q ≡ Err x)
       ↔ First (string_rules count rw ro (gives (plain 10) (¬ ((s < 3) × (k < length_of (map_of count rw ro) s) × (q < 8))) ∷ [])) x

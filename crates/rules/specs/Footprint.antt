@@ -13,21 +13,21 @@ use Rattle.rules.specs.Demands.{bit_in}
 -- the lanes that a call is on: the one that it names, or those that apply's mask chooses
 abbrev pub on_lane : Call → ℕ → Bool
 on_lane (select s i a) j = eqb j i
-on_lane (write s e p i v) j = eqb j i
-on_lane (read s e p i) j = eqb j i
+on_lane (write s f v) j = eqb j f.lane
+on_lane (read s f) j = eqb j f.lane
 on_lane (byte_write s k v) j = true
 on_lane (byte_read s k) j = true
-on_lane (publish e p i v) j = eqb j i
+on_lane (publish f v) j = eqb j f.lane
 on_lane (apply s lanes) j = chooses lanes j
 
 -- every call but the byte calls
 abbrev pub laned : Call → Bool
 laned (select s i a) = true
-laned (write s e p i v) = true
-laned (read s e p i) = true
+laned (write s f v) = true
+laned (read s f) = true
 laned (byte_write s k v) = false
 laned (byte_read s k) = false
-laned (publish e p i v) = true
+laned (publish f v) = true
 laned (apply s lanes) = true
 
 -- what two banks have of a lane is the same: its fields in all three sets, and both its AppSels

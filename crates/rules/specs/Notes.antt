@@ -1,6 +1,6 @@
 -- What 02 says of its notes: the statements. proofs/Demands.antt proves each, beside the demands.
 use Rattle.std.specs.Prelude.{◌≡◌, ◌↔◌, true, false, cond, List, [], ℕ, zero, suc, ◌+◌, ◌≤◌, ◌<◌, length, take, drop, Option, Result, Ok, Err, Some}
-use Rattle.rules.specs.Words.{Refusal, plain, at_entry, at_lane, State, Loaded, Passed, passed_all, Call, read, number, placed_at, owned_by, no_owner}
+use Rattle.rules.specs.Words.{Refusal, plain, at_entry, at_lane, State, Loaded, Passed, passed_all, Call, read, the_field, number, placed_at, owned_by, no_owner}
 use Rattle.rules.specs.Descriptor.{mask_bytes, byte_at, unlimited}
 use Rattle.rules.specs.Load.{start, into_ro, entry_number, Turn, Reading, fold_of, walk_within, read_within, read_of, sized, load_on, load_of, resume_of, pass_of, map_of}
 use Rattle.rules.specs.Place.{entry, width_of}
@@ -72,7 +72,7 @@ pub record Told (count : ℕ) (rw ro : List ℕ) (bank : Bank) (calls : List Com
   pub field : (s e p i k page byte bit : ℕ)
       → place_of count rw ro s e p i ≡ placed_at k page byte bit
       → ((q : ℕ) → ¬ (NoAddress page byte) → bit ≤ q → q < bit + width_of (entry (map_of count rw ro) e) → owner_at_call count rw ro s page byte q ≡ owned_by e p i (suc e))
-      × ((bank_call count rw ro (read s e p i) (bank_run count rw ro bank calls).1).0 ≡ number ((table_run count rw ro calls).1.numbers s e p i))
+      × ((bank_call count rw ro (read s (the_field e p i)) (bank_run count rw ro bank calls).1).0 ≡ number ((table_run count rw ro calls).1.numbers s e p i))
 
 pub record Note2 : Type 0 where
   pub addresses : OneToOne

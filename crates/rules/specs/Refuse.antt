@@ -48,31 +48,31 @@ check_entries r = refusal_of r.walked
 -- "An offset is judged against its own set's length."
 unfoldable pub exists : Map → Call → Bool
 exists m (select s i a) = is_set s && is_lane i
-exists m (write s e p i v) = is_set s && has_field m e p i
-exists m (read s e p i) = is_set s && has_field m e p i
+exists m (write s f v) = is_set s && has_field m f.entry f.part f.lane
+exists m (read s f) = is_set s && has_field m f.entry f.part f.lane
 exists m (byte_write s k v) = is_set s && ltb k (length_of m s)
 exists m (byte_read s k) = is_set s && ltb k (length_of m s)
-exists m (publish e p i v) = has_field m e p i
+exists m (publish f v) = has_field m f.entry f.part f.lane
 exists m (apply s lanes) = is_set s
 
 -- 11: "write, byte write, select or apply on set 2; an RO entry in a staged set; publish to an RW entry"
 unfoldable pub misdirected : Map → Call → Bool
 misdirected m (select s i a) = eqb s 2
-misdirected m (write s e p i v) = eqb s 2 || not (is_rw m e)
-misdirected m (read s e p i) = is_staged s && not (is_rw m e)
+misdirected m (write s f v) = eqb s 2 || not (is_rw m f.entry)
+misdirected m (read s f) = is_staged s && not (is_rw m f.entry)
 misdirected m (byte_write s k v) = eqb s 2
 misdirected m (byte_read s k) = false
-misdirected m (publish e p i v) = is_rw m e
+misdirected m (publish f v) = is_rw m f.entry
 misdirected m (apply s lanes) = eqb s 2
 
 -- 12: "value or app not accepted"; select takes "app 0 to count"
 unfoldable pub unaccepted : Map → Call → Bool
 unaccepted m (select s i a) = ltb m.count a
-unaccepted m (write s e p i v) = not (accepts (entry m e) v)
-unaccepted m (read s e p i) = false
+unaccepted m (write s f v) = not (accepts (entry m f.entry) v)
+unaccepted m (read s f) = false
 unaccepted m (byte_write s k v) = false
 unaccepted m (byte_read s k) = false
-unaccepted m (publish e p i v) = not (accepts (entry m e) v)
+unaccepted m (publish f v) = not (accepts (entry m f.entry) v)
 unaccepted m (apply s lanes) = false
 
 -- "10, 11, then 12": from the call's arguments and the map

@@ -66,11 +66,11 @@ table_holds_bad m t s lanes i =
 -- "The host's plan, at apply": 13 before 14
 unfoldable pub table_plan : Map → Call → Table → List Verdict
 table_plan m (select s i a) t = []
-table_plan m (write s e p i v) t = []
-table_plan m (read s e p i) t = []
+table_plan m (write s f v) t = []
+table_plan m (read s f) t = []
 table_plan m (byte_write s k v) t = []
 table_plan m (byte_read s k) t = []
-table_plan m (publish e p i v) t = []
+table_plan m (publish f v) t = []
 table_plan m (apply s lanes) t = at_lowest 13 (table_lacks_app m t s lanes) ∷ at_lowest 14 (table_holds_bad m t s lanes) ∷ []
 
 -- apply gives a number to the active set's RW fields
@@ -83,15 +83,15 @@ unfoldable pub table_does : Map → Call → Table → Result Answer Refusal × 
 table_does m (select s i a) t =
     (says_yes, record { numbers = t.numbers; apps = λ s' i'. cond (eqb s' s && eqb i' i) a (t.apps s' i') })
 -- "stores an accepted value"
-table_does m (write s e p i v) t = (says_yes, stored t s e p i v)
+table_does m (write s f v) t = (says_yes, stored t s f.entry f.part f.lane v)
 -- "answers the number"
-table_does m (read s e p i) t = (number (t.numbers s e p i), t)
+table_does m (read s f) t = (number (t.numbers s f.entry f.part f.lane), t)
 table_does m (byte_write s k v) t =
     (says_yes, renumbered t λ s' e p i. cond (eqb s' s && in_byte m s k e p i) (own_bits (entry m e) i v) (t.numbers s' e p i))
 table_does m (byte_read s k) t =
     (number (pos (byte_from m s k λ e p i. to_bits (width_of (entry m e)) (t.numbers s e p i))), t)
 -- "as write, into set 2"
-table_does m (publish e p i v) t = (says_yes, stored t 2 e p i v)
+table_does m (publish f v) t = (says_yes, stored t 2 f.entry f.part f.lane v)
 -- "copied to the active set; the others keep their active number"
 table_does m (apply s lanes) t =
     (says_yes, renumbered t λ s' e p i. cond (gives m s' e p i) (number_from (table_source m t s lanes e i) t s e p i) (t.numbers s' e p i))

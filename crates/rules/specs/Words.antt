@@ -11,8 +11,13 @@ pub use Rattle.rules.specs.declared.Call.TheVariants.{Select as select, Write as
 pub use Rattle.rules.specs.declared.Answer.{Answer}
 pub use Rattle.rules.specs.declared.Answer.TheVariants.{Yes, Number}
 pub use Rattle.rules.specs.declared.Placed.{Placed}
+pub use Rattle.rules.specs.declared.Field.{Field}
 pub use Rattle.rules.specs.declared.Owned.{Owned}
 pub use Rattle.rules.specs.declared.Taken.{Taken}
+
+-- the field of an entry, part and lane
+abbrev pub the_field : ℕ → ℕ → ℕ → Field
+the_field e p i = record { entry = e; part = p; lane = i }
 
 -- what calls answer that are not refused: of the load both entry counts, staged and active length
 abbrev pub accepted : ℕ → ℕ → ℕ → ℕ → Result Loaded Refusal
@@ -38,7 +43,7 @@ placed_at k page byte q = Ok (record { offset = k; page = page; byte = byte; bit
 
 -- of owner entry, part and lane, or a gap, and the number of entries looked at
 abbrev pub owned_by : ℕ → ℕ → ℕ → ℕ → Result Owned Refusal
-owned_by e p i n = Ok (record { field = Some (record { entry = e; part = p; lane = i }); looked = n })
+owned_by e p i n = Ok (record { field = Some (the_field e p i); looked = n })
 
 abbrev pub no_owner : ℕ → Result Owned Refusal
 no_owner n = Ok (record { field = None; looked = n })

@@ -3,6 +3,7 @@
 #![tactic(auto)]
 
 ghost use Rattle.std.specs.Prelude.{◌≡◌};
+ghost use Rattle.rules.specs.Words.{number_of};
 ghost use Rattle.rules.specs.Layout.{set_start, app_sel_start};
 
 // A bank's size in bytes.
@@ -50,6 +51,19 @@ pub enum Refusal {
     Plain(usize),
     AtEntry(usize, usize),
     AtLane(usize, usize),
+}
+
+impl Refusal {
+    // Its number.
+    pub fn number(self) -> usize
+        ensures { result ≡ number_of self }
+    {
+        match self {
+            Refusal::Plain(n) => n,
+            Refusal::AtEntry(n, _) => n,
+            Refusal::AtLane(n, _) => n,
+        }
+    }
 }
 
 // An entry of a descriptor string, decoded: where it starts in its string, what its bytes say, and its offset in a set.
@@ -109,16 +123,12 @@ pub enum Call {
     },
     Write {
         set: usize,
-        entry: usize,
-        part: usize,
-        lane: usize,
+        field: Field,
         value: i64,
     },
     Read {
         set: usize,
-        entry: usize,
-        part: usize,
-        lane: usize,
+        field: Field,
     },
     ByteWrite {
         set: usize,
@@ -130,9 +140,7 @@ pub enum Call {
         offset: usize,
     },
     Publish {
-        entry: usize,
-        part: usize,
-        lane: usize,
+        field: Field,
         value: i64,
     },
     Apply {
@@ -141,8 +149,8 @@ pub enum Call {
     },
 }
 
-// The answer of these calls, of weight, and of the call beside the entry call (which hands back bytes alone): yes, where that one hands back an
-// entry's bytes. "An accepted call without another answer says yes."
+// Document 01's two kinds of answer: of these calls, of weight, and of the call beside the entry call (which hands back bytes alone): yes, where
+// that one hands back an entry's bytes. "An accepted call without another answer says yes."
 #[derive(Clone, Copy)]
 pub enum Answer {
     Yes,

@@ -2,7 +2,7 @@
 use Rattle.std.specs.Prelude.{Bool, true, false, cond, pos, ℕ, ltb, eqb, Option, Some, None, Result, Ok, Err}
 use Rattle.rules.specs.declared.Refusal.{Refusal}
 use Rattle.rules.specs.declared.Refusal.TheVariants.{Plain as plain, AtEntry as at_entry, AtLane as at_lane}
-use Rattle.rules.specs.Words.{passed_all, says_yes, number, no_more}
+use Rattle.rules.specs.Words.{the_field, passed_all, says_yes, number, no_more}
 use Rattle.rules.specs.declared.Answer.{Answer}
 use Rattle.rules.specs.declared.Call.{Call}
 use Rattle.rules.specs.declared.Call.TheVariants.{Select as select, Write as write, Read as read, ByteWrite as byte_write, ByteRead as byte_read, Publish as publish, Apply as apply}
@@ -58,7 +58,7 @@ flat_passed passed_all = record { refusal = 0; at = 0; ended = 1; length = 0; st
 flat_passed (Err r) = record { refusal = (reason_of r).number; at = (reason_of r).at; ended = 0; length = 0; state = no_state }
 
 abbrev pub flat_entry : Result Located Refusal → FlatEntry
-flat_entry (Ok l) = record { refusal = 0; at = 0; string = cond l.ro 1 0; start = l.start; length = l.length; offset = l.offset }
+flat_entry (Ok l) = record { refusal = 0; at = 0; string = cond l.ro 1 0; start = l.mark.at; length = l.length; offset = l.mark.sum }
 flat_entry (Err r) =
     record { refusal = (reason_of r).number; at = (reason_of r).at; string = 0; start = 0; length = 0; offset = 0 }
 
@@ -89,10 +89,10 @@ flat_taken (Err r) p = record { refusal = (reason_of r).number; end = 0; start =
 unfoldable pub call_of : FlatCall → Call
 call_of c =
     cond (eqb c.kind 0) (select c.set c.lane c.app)
-    (cond (eqb c.kind 1) (write c.set c.entry c.part c.lane c.value)
-    (cond (eqb c.kind 2) (read c.set c.entry c.part c.lane)
+    (cond (eqb c.kind 1) (write c.set (the_field c.entry c.part c.lane) c.value)
+    (cond (eqb c.kind 2) (read c.set (the_field c.entry c.part c.lane))
     (cond (eqb c.kind 3) (byte_write c.set c.offset c.byte)
     (cond (eqb c.kind 4) (byte_read c.set c.offset)
-    (cond (eqb c.kind 5) (publish c.entry c.part c.lane c.value)
+    (cond (eqb c.kind 5) (publish (the_field c.entry c.part c.lane) c.value)
     (cond (eqb c.kind 6) (apply c.set c.lanes)
     (apply 3 0)))))))

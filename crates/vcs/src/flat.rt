@@ -6,7 +6,7 @@ ghost use Rattle.vcs.specs.Flat.{reason_of, flat_loaded, state_of, flat_state, f
 
 use descriptor::Located;
 use reader::Taking;
-use rules::{Answer, Call, Loaded, Owned, Passed, Placed, Refusal, State};
+use rules::{Answer, Call, Field, Loaded, Owned, Passed, Placed, Refusal, State};
 
 // A refusal: its number, and the entry (1 to 7, 16) or the lane (13, 14) that it names, else 0.
 #[derive(Clone, Copy)]
@@ -127,10 +127,14 @@ impl From<Refusal> for Reason {
     ghost from_gives = { λ x y. y ≡ reason_of x };
 
     fn from(r: Refusal) -> Reason {
-        match r {
-            Refusal::Plain(number) => Reason { number, at: 0 },
-            Refusal::AtEntry(number, entry) => Reason { number, at: entry },
-            Refusal::AtLane(number, lane) => Reason { number, at: lane },
+        let at = match r {
+            Refusal::Plain(_) => 0,
+            Refusal::AtEntry(_, entry) => entry,
+            Refusal::AtLane(_, lane) => lane,
+        };
+        Reason {
+            number: r.number(),
+            at,
         }
     }
 }
@@ -222,9 +226,9 @@ impl From<Result<Located, Refusal>> for FlatEntry {
         match answer {
             Ok(found) => FlatEntry {
                 string: found.ro as usize,
-                start: found.start,
+                start: found.mark.at,
                 length: found.length,
-                offset: found.offset,
+                offset: found.mark.sum,
                 ..FlatEntry::default()
             },
             Err(r) => refused!(FlatEntry, r),
@@ -321,6 +325,11 @@ impl From<FlatCall> for Call {
 
     #[tactic(auto, unfolding(crate::specs::Flat::call_of))]
     fn from(c: FlatCall) -> Call {
+        let field = Field {
+            entry: c.entry,
+            part: c.part,
+            lane: c.lane,
+        };
         match c.kind {
             0 => Call::Select {
                 set: c.set,
@@ -329,17 +338,10 @@ impl From<FlatCall> for Call {
             },
             1 => Call::Write {
                 set: c.set,
-                entry: c.entry,
-                part: c.part,
-                lane: c.lane,
+                field,
                 value: c.value,
             },
-            2 => Call::Read {
-                set: c.set,
-                entry: c.entry,
-                part: c.part,
-                lane: c.lane,
-            },
+            2 => Call::Read { set: c.set, field },
             3 => Call::ByteWrite {
                 set: c.set,
                 offset: c.offset,
@@ -350,9 +352,7 @@ impl From<FlatCall> for Call {
                 offset: c.offset,
             },
             5 => Call::Publish {
-                entry: c.entry,
-                part: c.part,
-                lane: c.lane,
+                field,
                 value: c.value,
             },
             6 => Call::Apply {

@@ -4,6 +4,7 @@
 
 ghost use Rattle.std.specs.Prelude.{◌≡◌};
 ghost use Rattle.rules.specs.Load.{load_of, resume_of, pass_of};
+ghost use Rattle.rules.specs.Words.{the_field};
 ghost use Rattle.rules.specs.declared.Call.{Call};
 ghost use Rattle.rules.specs.Bank.{fresh_call, bank_call};
 ghost use Rattle.rules.specs.Beside.{place_of, owner_call, owner_at_call, weight_call};
@@ -137,8 +138,8 @@ pub fn vcs_write(
     lane: usize,
     value: i64,
 ) -> FlatAnswer
-    ensures answer { result ≡ flat_answer (bank_call count rw.now ro.now (Call.Write set entry part lane value) bank.old).0 }
-    ensures after { bank.new ≡ (bank_call count rw.now ro.now (Call.Write set entry part lane value) bank.old).1 }
+    ensures answer { result ≡ flat_answer (bank_call count rw.now ro.now (Call.Write set (the_field entry part lane) value) bank.old).0 }
+    ensures after { bank.new ≡ (bank_call count rw.now ro.now (Call.Write set (the_field entry part lane) value) bank.old).1 }
 {
     FlatAnswer::from(write(
         Descriptors { count, rw, ro },
@@ -160,7 +161,7 @@ pub fn vcs_read(
     part: usize,
     lane: usize,
 ) -> FlatAnswer
-    ensures answer { result ≡ flat_answer (bank_call count rw.now ro.now (Call.Read set entry part lane) bank.now).0 }
+    ensures answer { result ≡ flat_answer (bank_call count rw.now ro.now (Call.Read set (the_field entry part lane)) bank.now).0 }
 {
     FlatAnswer::from(read(
         Descriptors { count, rw, ro },
@@ -211,8 +212,8 @@ pub fn vcs_publish(
     lane: usize,
     value: i64,
 ) -> FlatAnswer
-    ensures answer { result ≡ flat_answer (bank_call count rw.now ro.now (Call.Publish entry part lane value) bank.old).0 }
-    ensures after { bank.new ≡ (bank_call count rw.now ro.now (Call.Publish entry part lane value) bank.old).1 }
+    ensures answer { result ≡ flat_answer (bank_call count rw.now ro.now (Call.Publish (the_field entry part lane) value) bank.old).0 }
+    ensures after { bank.new ≡ (bank_call count rw.now ro.now (Call.Publish (the_field entry part lane) value) bank.old).1 }
 {
     FlatAnswer::from(publish(
         Descriptors { count, rw, ro },

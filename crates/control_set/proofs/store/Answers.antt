@@ -15,5 +15,6 @@ pub returns-clause-after : goal.returns-clause-after
 unfolding store_of
 returns-clause-after c =
     let yes : accepted_by c.args.f c.args.value ≡ true = search rules in
-    let stored = (rw (to_z-of_z c.ranges.value) at c.bits_of-bits.ensures) ∙ (c.requires.bits yes).1 in
-    rw (yes, c.write_field.ensures, stored)
+    let stored = (rw (to_z-of_z c.ranges.value) at c.bits_of.ensures) ∙ (c.requires.bits yes).1 in
+    let (byte, bit, width) = c.of-place.ensures in
+    rw (yes, c.write_field.ensures, byte, bit, width, stored)

@@ -1,10 +1,10 @@
 -- `place` meets its contract.
-use Rattle.std.proofs.Common.{◌≤◌, ◌<◌, false, refl, sym, ◌∙◌, arith}
-use borrow.Author.Tests.{lt-ltb, le-ltb}
+use Rattle.std.proofs.Common.{◌≤◌, ◌<◌, false, refl, sym, ◌∙◌, ⊎_elim, arith}
 use Rattle.rules.proofs.Place.PlaceCalls.{place-refused}
 use Rattle.rules.proofs.Basics.Results.{handed-on}
 use Rattle.descriptor.specs.Find.{InMap}
 use Rattle.descriptor.proofs.Finds.{found-refused, found-in}
+use Rattle.descriptor.proofs.Sets.{shown-passed, shown-refused}
 use Rattle.placement.proofs.Placing.{offset-small, width-small, asked, placing-10, placing-11, placing-at}
 use Rattle.placement.proofs.Small.{There, product-fits, part-fits, place-fits}
 use Rattle.placement.proofs.place.Goals as goal
@@ -18,21 +18,21 @@ in-map c = let g = c.args in found-in g.desc.count g.desc.rw.now g.desc.ro.now f
 there : (c : In_ok-f) → There c.args.field.part c.args.field.lane
 there c = let g = c.args in asked g.desc.count g.desc.rw.now g.desc.ro.now (in-map c)
 
-narrow : (c : In_ok-f) → c.in_ok-f.f.width < 16
+narrow : (c : In_ok-f) → c.in_ok-f.f.fields.width < 16
 narrow c = let g = c.args in width-small g.desc.count g.desc.rw.now g.desc.ro.now (in-map c)
 
-offset : (c : In_ok-f) → c.in_ok-f.f.offset ≤ 256
+offset : (c : In_ok-f) → c.in_ok-f.f.fields.offset ≤ 256
 offset c = let g = c.args in offset-small g.desc.count g.desc.rw.now g.desc.ro.now (in-map c)
 
-pub returns-then-not-set : goal.returns-then-not-set
-returns-then-not-set c =
+pub returns-in_err-shown : goal.returns-in_err-shown
+returns-in_err-shown c =
     let g = c.args in
-    placing-10 g.desc.count g.desc.rw.now g.desc.ro.now (in-map (goal.at.returns-then-not-set c).In_ok-f) g.set (le-ltb g.set 3 c.if-not-set.true)
-
-pub returns-then-set-f : goal.returns-then-set-f
-returns-then-set-f c =
-    let g = c.args in
-    placing-11 g.desc.count g.desc.rw.now g.desc.ro.now (in-map (goal.at.returns-then-set-f c).In_ok-f) g.set (lt-ltb g.set 3 c.if-not-set.false) c.if-set-f.true
+    let z = in-map (goal.at.returns-in_err-shown c).In_ok-f in
+    handed-on _ c.from_residual-in_err-shown.ensures.1
+    ∙ ⊎_elim
+    (λ h. rw h.1 (placing-10 g.desc.count g.desc.rw.now g.desc.ro.now z g.set h.0))
+    (λ h. rw h.2 (placing-11 g.desc.count g.desc.rw.now g.desc.ro.now z g.set h.0 h.1))
+    (shown-refused c.in_ok-f.f g.set _ c.in_err-shown.ensures)
 
 pub overflow_sub-first : goal.overflow_sub-first
 overflow_sub-first c = omega (arith, there (goal.at.overflow_sub-first c).In_ok-f)
@@ -67,5 +67,5 @@ returns-in_err-f c =
 pub returns : goal.returns
 returns c =
     let g = c.args in
-    c.placed_in.ensures
-    ∙ placing-at g.desc.count g.desc.rw.now g.desc.ro.now (in-map (goal.at.returns c).In_ok-f) g.set (lt-ltb g.set 3 c.if-not-set.false) c.if-set-f.false
+    let h = shown-passed c.in_ok-f.f g.set _ c.in_ok-shown.ensures in
+    c.placed_in.ensures ∙ placing-at g.desc.count g.desc.rw.now g.desc.ro.now (in-map (goal.at.returns c).In_ok-f) g.set h.0 h.1

@@ -4,8 +4,7 @@ use Prim.Native.Nat.{ℕ}
 use native.Mathlib.Omega.{arith}
 use Rattle.std.specs.Prelude.{Option, Some, None, Result, Ok, Err, IsErrAnd}
 use Rattle.std.proofs.lemmas.Result.{err_from_is_err_and}
-use Rattle.rules.specs.Words.{Refusal, Loaded, Placed, Owned, Taken}
-use Rattle.rules.specs.declared.Field.{Field}
+use Rattle.rules.specs.Words.{Refusal, Loaded, Placed, Field, Owned, Taken}
 
 module _ {A E : Type 0} where
   pub ok-same : (x y : A) → ◌≡◌ {A = Result A E} (Ok x) (Ok y) → x ≡ y
@@ -43,5 +42,5 @@ pub none-some : {x : Field} → ¬ (◌≡◌ {A = Option Field} None (Some x))
 none-some h = let o : ◌≡◌ {A = ℕ} 0 1 = cc in absurd (omega arith)
 
 -- what `?` hands on: the refusal as it is
-pub handed-on : {A : Type 0} {e : Refusal} (r : Result A Refusal) → IsErrAnd r (λ x. x ≡ e) → r ≡ Err e
+pub handed-on : {A E : Type 0} {e : E} (r : Result A E) → IsErrAnd r (λ x. x ≡ e) → r ≡ Err e
 handed-on r h = let p = err_from_is_err_and r h in p.1 ∙ ap Err p.2

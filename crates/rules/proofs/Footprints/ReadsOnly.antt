@@ -131,11 +131,11 @@ module _ (m : Map) (g : GoodMap m) (b b' : Bank) (size : bank_size ≤ length b)
       (c : Call) → Judged m c → SameOn m (on_lane c) b b' → first_of (bank_plan m c b) ≡ first_of (bank_plan m c b')
   unfolding bank_plan
   plans-alike (select s i a) j same = refl
-  plans-alike (write s e p i v) j same = refl
-  plans-alike (read s e p i) j same = refl
+  plans-alike (write s f v) j same = refl
+  plans-alike (read s f) j same = refl
   plans-alike (byte_write s k v) j same = refl
   plans-alike (byte_read s k) j same = refl
-  plans-alike (publish e p i v) j same = refl
+  plans-alike (publish f v) j same = refl
   plans-alike (apply s lanes) j same = plan-alike s lanes (apply-staged m j) same
 
   does-alike :
@@ -144,17 +144,17 @@ module _ (m : Map) (g : GoodMap m) (b b' : Bank) (size : bank_size ≤ length b)
   does-alike (select s i a) h j same =
       let (hs, hi, hj, ha) = select-allowed m j in
       record { answer = refl; lanes = λ n l u r. same-select n l u r s i a hs hj }
-  does-alike (write s e p i v) h j same =
-      let f : Field m s e p i = write-field m g j in
-      record { answer = refl; lanes = λ n l u r. same-put n l u r s e p i _ f (bits-lt m g v f (write-fits m j)) }
-  does-alike (read s e p i) h j same =
-      let f : Field m s e p i = read-field m g j in
-      record { answer = ap number (same-number i f.low f.top (same i f.low f.top (eqb_refl i)) s e p f); lanes = λ n l u r. r }
+  does-alike (write s f v) h j same =
+      let x : Field m s f.entry f.part f.lane = write-field m g j in
+      record { answer = refl; lanes = λ n l u r. same-put n l u r s f.entry f.part f.lane _ x (bits-lt m g v x (write-fits m j)) }
+  does-alike (read s f) h j same =
+      let x : Field m s f.entry f.part f.lane = read-field m g j in
+      record { answer = ap number (same-number f.lane x.low x.top (same f.lane x.low x.top (eqb_refl f.lane)) s f.entry f.part x); lanes = λ n l u r. r }
   does-alike (byte_write s k v) h j same = absurd h
   does-alike (byte_read s k) h j same = absurd h
-  does-alike (publish e p i v) h j same =
-      let f : Field m 2 e p i = publish-field m j in
-      record { answer = refl; lanes = λ n l u r. same-put n l u r 2 e p i _ f (bits-lt m g v f (publish-fits m j)) }
+  does-alike (publish f v) h j same =
+      let x : Field m 2 f.entry f.part f.lane = publish-field m j in
+      record { answer = refl; lanes = λ n l u r. same-put n l u r 2 f.entry f.part f.lane _ x (bits-lt m g v x (publish-fits m j)) }
   does-alike (apply s lanes) h j same = record { answer = refl; lanes = λ n l u r. same-apply n l u r s lanes (apply-staged m j) }
 
 pub call-reads : ReadsOnly

@@ -95,15 +95,15 @@ module _ (m : Map) (g : GoodMap m) (b : Bank) (size : bank_size ≤ length b) wh
   does-only : (c : Call) → T (laned c) → Judged m c → OnlyOn m (on_lane c) b (bank_does m c b).1
   unfolding bank_does with_number
   does-only (select s i a) h j = let (hs, hi, hj, ha) = select-allowed m j in only-select m g (on_lane (select s i a)) b size s i a hs hi hj (eqb_refl i)
-  does-only (write s e p i v) h j =
-      let f : Field m s e p i = write-field m g j in
-      only-put m g (on_lane (write s e p i v)) b size s e p i _ f (bits-lt m g v f (write-fits m j)) (eqb_refl i)
-  does-only (read s e p i) h j = only-self m _ b
+  does-only (write s f v) h j =
+      let x : Field m s f.entry f.part f.lane = write-field m g j in
+      only-put m g (on_lane (write s f v)) b size s f.entry f.part f.lane _ x (bits-lt m g v x (write-fits m j)) (eqb_refl f.lane)
+  does-only (read s f) h j = only-self m _ b
   does-only (byte_write s k v) h j = absurd h
   does-only (byte_read s k) h j = absurd h
-  does-only (publish e p i v) h j =
-      let f : Field m 2 e p i = publish-field m j in
-      only-put m g (on_lane (publish e p i v)) b size 2 e p i _ f (bits-lt m g v f (publish-fits m j)) (eqb_refl i)
+  does-only (publish f v) h j =
+      let x : Field m 2 f.entry f.part f.lane = publish-field m j in
+      only-put m g (on_lane (publish f v)) b size 2 f.entry f.part f.lane _ x (bits-lt m g v x (publish-fits m j)) (eqb_refl f.lane)
   does-only (apply s lanes) h j = only-apply s lanes
 
 pub call-writes : WritesOnly

@@ -4,7 +4,7 @@ use Prim.Native.Nat.{ℕ, ◌^◌, ◌≤◌, ◌<◌}
 use native.Mathlib.Omega.{arith}
 use lib.IntN.{ℤ}
 use lib.Dec.{T, leb, eqb, ltb→lt, leb→le, nltb→le}
-use Rattle.rules.specs.Words.{select, write, read, publish, apply}
+use Rattle.rules.specs.Words.{select, write, read, publish, apply, the_field}
 use Rattle.rules.specs.Load.{Map}
 use Rattle.rules.specs.Place.{entry, width_of, signed_of, is_set, is_rw, has_field, Field}
 use Rattle.rules.specs.Accept.{accepts, to_bits}
@@ -29,27 +29,27 @@ module _ (m : Map) where
   unfolding exists misdirected
   apply-staged {s} j = staged-set s j.there j.may
 
-  pub write-fits : {s e p i : ℕ} {v : ℤ} → Judged m (write s e p i v) → T (fits (signed_of (entry m e)) (width_of (entry m e)) v)
+  pub write-fits : {s e p i : ℕ} {v : ℤ} → Judged m (write s (the_field e p i) v) → T (fits (signed_of (entry m e)) (width_of (entry m e)) v)
   unfolding unaccepted
   write-fits {s} {e} {p} {i} {v} j = accepts-fits (entry m e) v (not-not (accepts (entry m e) v) j.fine)
 
-  pub publish-fits : {e p i : ℕ} {v : ℤ} → Judged m (publish e p i v) → T (fits (signed_of (entry m e)) (width_of (entry m e)) v)
+  pub publish-fits : {e p i : ℕ} {v : ℤ} → Judged m (publish (the_field e p i) v) → T (fits (signed_of (entry m e)) (width_of (entry m e)) v)
   unfolding unaccepted
   publish-fits {e} {p} {i} {v} j = accepts-fits (entry m e) v (not-not (accepts (entry m e) v) j.fine)
 
-  pub publish-field : {e p i : ℕ} {v : ℤ} → Judged m (publish e p i v) → Field m 2 e p i
+  pub publish-field : {e p i : ℕ} {v : ℤ} → Judged m (publish (the_field e p i) v) → Field m 2 e p i
   unfolding exists
   publish-field {e} {p} {i} j = field-of m 2 e p i (named-has-bytes 2 (omega arith)) (active-held m e p i j.there) j.there
 
 module _ (m : Map) (g : GoodMap m) where
-  pub write-field : {s e p i : ℕ} {v : ℤ} → Judged m (write s e p i v) → Field m s e p i
+  pub write-field : {s e p i : ℕ} {v : ℤ} → Judged m (write s (the_field e p i) v) → Field m s e p i
   unfolding exists misdirected
   write-field {s} {e} {p} {i} j =
       let (h₁, h₂) = and₂ (is_set s) (has_field m e p i) j.there in
       let (h₃, h₄) = not-or (eqb s 2) (not (is_rw m e)) j.may in
       field-of m s e p i (named-has-bytes s (ltb→lt _ _ h₁)) (rw-held m g s e (ltb→lt _ _ (not-not (is_rw m e) h₄))) h₂
 
-  pub read-field : {s e p i : ℕ} → Judged m (read s e p i) → Field m s e p i
+  pub read-field : {s e p i : ℕ} → Judged m (read s (the_field e p i)) → Field m s e p i
   unfolding exists misdirected
   read-field {s} {e} {p} {i} j =
       let (h₁, h₂) = and₂ (is_set s) (has_field m e p i) j.there in

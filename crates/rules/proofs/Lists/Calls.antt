@@ -7,7 +7,7 @@ use native.Mathlib.Omega.{arith}
 use lib.IntN.{ℤ, pos}
 use lib.ListN.{get_or}
 use lib.Dec.{ltb, ltb→lt}
-use Rattle.rules.specs.Words.{Call, select, write, read, byte_write, byte_read, publish, apply, Answer, number, Refusal}
+use Rattle.rules.specs.Words.{Call, select, write, read, byte_write, byte_read, publish, apply, Field, Answer, number, Refusal}
 use Rattle.rules.specs.Load.{Map}
 use Rattle.rules.specs.Place.{entry, width_of, is_set, length_of}
 use Rattle.rules.specs.Accept.{to_bits}
@@ -37,13 +37,13 @@ module _ (m : Map) (g : GoodMap m) (tail : List ℕ) (b : Bank) (t : Table) (r :
       let (hs, hi, hj, ha) = select-allowed m j in
       record { answer = refl; after = select-holds m g tail b t r s i a hs hi hj (omega (arith, g.count)) }
 
-  does-write : (s e p i : ℕ) (v : ℤ) → Judged m (write s e p i v) → Same m tail (bank_does m (write s e p i v) b) (table_does m (write s e p i v) t)
+  does-write : (s : ℕ) (f : Field) (v : ℤ) → Judged m (write s f v) → Same m tail (bank_does m (write s f v) b) (table_does m (write s f v) t)
   unfolding bank_does table_does
-  does-write s e p i v j = record { answer = refl; after = put-holds m g tail b t r s e p i v (write-field m g j) (write-fits m j) }
+  does-write s f v j = record { answer = refl; after = put-holds m g tail b t r s f.entry f.part f.lane v (write-field m g j) (write-fits m j) }
 
-  does-read : (s e p i : ℕ) → Judged m (read s e p i) → Same m tail (bank_does m (read s e p i) b) (table_does m (read s e p i) t)
+  does-read : (s : ℕ) (f : Field) → Judged m (read s f) → Same m tail (bank_does m (read s f) b) (table_does m (read s f) t)
   unfolding bank_does table_does
-  does-read s e p i j = record { answer = ap number (r.fields s e p i (read-field m g j)); after = r }
+  does-read s f j = record { answer = ap number (r.fields s f.entry f.part f.lane (read-field m g j)); after = r }
 
   does-byte_write : (s k v : ℕ) → Judged m (byte_write s k v) → Same m tail (bank_does m (byte_write s k v) b) (table_does m (byte_write s k v) t)
   unfolding bank_does table_does exists misdirected unaccepted
@@ -64,9 +64,9 @@ module _ (m : Map) (g : GoodMap m) (tail : List ℕ) (b : Bank) (t : Table) (r :
         after = r;
       }
 
-  does-publish : (e p i : ℕ) (v : ℤ) → Judged m (publish e p i v) → Same m tail (bank_does m (publish e p i v) b) (table_does m (publish e p i v) t)
+  does-publish : (f : Field) (v : ℤ) → Judged m (publish f v) → Same m tail (bank_does m (publish f v) b) (table_does m (publish f v) t)
   unfolding bank_does table_does
-  does-publish e p i v j = record { answer = refl; after = put-holds m g tail b t r 2 e p i v (publish-field m j) (publish-fits m j) }
+  does-publish f v j = record { answer = refl; after = put-holds m g tail b t r 2 f.entry f.part f.lane v (publish-field m j) (publish-fits m j) }
 
   does-apply : (s lanes : ℕ) → Judged m (apply s lanes) → Same m tail (bank_does m (apply s lanes) b) (table_does m (apply s lanes) t)
   unfolding bank_does table_does
@@ -74,20 +74,20 @@ module _ (m : Map) (g : GoodMap m) (tail : List ℕ) (b : Bank) (t : Table) (r :
 
   pub does : (c : Call) → Judged m c → Same m tail (bank_does m c b) (table_does m c t)
   does (select s i a) j = does-select s i a j
-  does (write s e p i v) j = does-write s e p i v j
-  does (read s e p i) j = does-read s e p i j
+  does (write s f v) j = does-write s f v j
+  does (read s f) j = does-read s f j
   does (byte_write s k v) j = does-byte_write s k v j
   does (byte_read s k) j = does-byte_read s k j
-  does (publish e p i v) j = does-publish e p i v j
+  does (publish f v) j = does-publish f v j
   does (apply s lanes) j = does-apply s lanes j
 
   -- 13 and 14
   pub plans : (c : Call) → Judged m c → first_of (bank_plan m c b) ≡ first_of (table_plan m c t)
   unfolding bank_plan table_plan
   plans (select s i a) j = refl
-  plans (write s e p i v) j = refl
-  plans (read s e p i) j = refl
+  plans (write s f v) j = refl
+  plans (read s f) j = refl
   plans (byte_write s k v) j = refl
   plans (byte_read s k) j = refl
-  plans (publish e p i v) j = refl
+  plans (publish f v) j = refl
   plans (apply s lanes) j = plan-same m g tail b t r s lanes (apply-staged m j)

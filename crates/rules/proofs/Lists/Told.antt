@@ -5,7 +5,7 @@ use mathlib.Core.List.{List, append-nil}
 use Prim.Native.Nat.{ℕ, suc, ◌≤◌}
 use native.Mathlib.Omega.{arith}
 use lib.ListN.{length}
-use Rattle.rules.specs.Words.{read, number}
+use Rattle.rules.specs.Words.{read, the_field, number}
 use Rattle.rules.specs.Load.{map_of}
 use Rattle.rules.specs.Place.{Field}
 use Rattle.rules.specs.Layout.{bank_size}
@@ -28,12 +28,12 @@ read-number :
     → Accepted count first last
     → bank_size ≤ length b
     → Field (map_of count first last) s e p i
-    → (bank_call count first last (read s e p i) b).0 ≡ number (number_in (map_of count first last) b s e p i)
+    → (bank_call count first last (read s (the_field e p i)) b).0 ≡ number (number_in (map_of count first last) b s e p i)
 unfolding bank_call bank_plan bank_does
 read-number count first last b s e p i ok size f =
     rw (
-      append-nil (judge (map_of count first last) (read s e p i)),
-      bank-order-open count first last (check9-passes count first last ok) (check_entries-passes count first last ok) (length b) (judge (map_of count first last) (read s e p i)) size,
+      append-nil (judge (map_of count first last) (read s (the_field e p i))),
+      bank-order-open count first last (check9-passes count first last ok) (check_entries-passes count first last ok) (length b) (judge (map_of count first last) (read s (the_field e p i))) size,
       field-reads (map_of count first last) (map-good count first last ok) f,
     )
     refl

@@ -8,7 +8,7 @@ use native.Mathlib.Omega.{arith}
 use lib.ListN.{length}
 use lib.Dec.{ltb}
 use borrow.Author.Tests.{ltb-true, ltb-false, lt-ltb, le-ltb}
-use Rattle.rules.specs.Words.{Refusal, plain, Loaded, read}
+use Rattle.rules.specs.Words.{Refusal, plain, Loaded, read, the_field}
 use Rattle.rules.specs.Load.{Map, load_of, map_of, read_of}
 use Rattle.rules.specs.Place.{entry, is_set, is_staged, is_rw, has_field, held_by, length_of, field_byte, field_bit, owner_of}
 use Rattle.rules.specs.Refuse.{Verdict, passes, refuses, refuse_if, first_of, check9, check_entries, order_of, exists, misdirected, unaccepted, judge}
@@ -38,7 +38,7 @@ module _ (count : ℕ) (first last : List ℕ) where
       where
         go : (a b : Verdict) (t : Bool) → first_of (a ∷ b ∷ refuse_if (not t) (plain 10) ∷ []) ≡ refuses r
             → Err r
-            ≡ placed (first_of (a ∷ b ∷ refuse_if (not (is_set s && t)) (plain 10) ∷ refuse_if (misdirected m (read s e p i)) (plain 11) ∷ refuse_if (unaccepted m (read s e p i)) (plain 12) ∷ []))
+            ≡ placed (first_of (a ∷ b ∷ refuse_if (not (is_set s && t)) (plain 10) ∷ refuse_if (misdirected m (read s (the_field e p i))) (plain 11) ∷ refuse_if (unaccepted m (read s (the_field e p i))) (plain 12) ∷ []))
             (placed_in s (field_byte (entry m e) p i) (field_bit (entry m e) i))
         go (refuses x) b t q = let z : x ≡ r = cc in rw z refl
         go passes (refuses x) t q = let z : x ≡ r = cc in rw z refl
@@ -46,9 +46,9 @@ module _ (count : ℕ) (first last : List ℕ) where
         go passes passes false q = let z : plain 10 ≡ r = cc in rw (and-no (is_set s), z) refl
 
     module _ (ok : Accepted count first last) (h : has_field (map_of count first last) e p i ≡ true) where
-      place-is : place_of count first last s e p i ≡ placed (first_of (judge m (read s e p i))) (placed_in s (field_byte (entry m e) p i) (field_bit (entry m e) i))
+      place-is : place_of count first last s e p i ≡ placed (first_of (judge m (read s (the_field e p i)))) (placed_in s (field_byte (entry m e) p i) (field_bit (entry m e) i))
       unfolding place_of
-      place-is = rw (order-accepted count first last ok (judge m (read s e p i))) refl
+      place-is = rw (order-accepted count first last ok (judge m (read s (the_field e p i)))) refl
 
       -- 10 of a set
       pub place-10 : is_set s ≡ false → Err (plain 10) ≡ place_of count first last s e p i

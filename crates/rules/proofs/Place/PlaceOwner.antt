@@ -9,7 +9,7 @@ use native.Mathlib.Omega.{arith}
 use lib.ListN.{length, get_or, take}
 use lib.Dec.{T, ltb, leb, ltb→lt, lt→ltb, le→leb}
 use borrow.Author.Tests.{lt-ltb}
-use Rattle.rules.specs.Words.{plain, Entry, read, placed_at, owned_by, no_owner}
+use Rattle.rules.specs.Words.{plain, Entry, read, the_field, placed_at, owned_by, no_owner}
 use Rattle.rules.specs.Descriptor.{mask_bytes}
 use Rattle.rules.specs.Load.{Map, rw_entries, ro_entries, map_of, total}
 use Rattle.rules.specs.Place.{nothing, entry, parts_of, width_of, is_set, is_staged, is_rw, held_by, length_of, field_byte, field_bit, covers, owner_of, Owner, field, gap, Field}
@@ -43,10 +43,10 @@ module _ (m : Map) (g : GoodMap m) where
       go (inl a) h = let l : e < m.rw_count = rw (is-true (is_staged s) a) at h in rw (is-true (is_staged s) a, lt-ltb e m.rw_count l) tt
       go (inr a) h = rw (is-false (is_staged s) a) tt
 
-  pub field-reads : {s e p i : ℕ} → Field m s e p i → first_of (judge m (read s e p i)) ≡ passes
+  pub field-reads : {s e p i : ℕ} → Field m s e p i → first_of (judge m (read s (the_field e p i))) ≡ passes
   unfolding exists misdirected unaccepted
   field-reads {s} {e} {p} {i} f =
-      judged-passes m (read s e p i)
+      judged-passes m (read s (the_field e p i))
       (record {
         there = both-true (is_set s) _ (lt→ltb _ _ (has-bytes-named s f.set))
             (both-true (ltb e (length m.entries)) _ (lt→ltb _ _ (held-lt m g s e f.ent))
@@ -55,8 +55,8 @@ module _ (m : Map) (g : GoodMap m) where
         fine = tt;
       })
 
-  reads-field : (s e p i : ℕ) → first_of (judge m (read s e p i)) ≡ passes → Field m s e p i
-  reads-field s e p i q = read-field m g (judge-passes m (read s e p i) q)
+  reads-field : (s e p i : ℕ) → first_of (judge m (read s (the_field e p i))) ≡ passes → Field m s e p i
+  reads-field s e p i q = read-field m g (judge-passes m (read s (the_field e p i)) q)
 
 owned-field : (c : ℕ) (o : Owner) {e p i n : ℕ} → owned_as c o ≡ owned_by e p i n → o ≡ field e p i
 owned-field c (field e p i) h = let f = some-same _ _ (owned-same _ _ h).0 in rw (f.0, f.1, f.2) refl
@@ -81,10 +81,10 @@ module _ (count : ℕ) (first last : List ℕ) (ok : Accepted count first last) 
   g = map-good count first last ok
 
   -- the place call
-  place-is : (s e p i : ℕ) → place_of count first last s e p i ≡ placed (first_of (judge m (read s e p i))) (placed_in s (field_byte (entry m e) p i) (field_bit (entry m e) i))
+  place-is : (s e p i : ℕ) → place_of count first last s e p i ≡ placed (first_of (judge m (read s (the_field e p i)))) (placed_in s (field_byte (entry m e) p i) (field_bit (entry m e) i))
   unfolding place_of m
   place-is s e p i =
-      rw (order-open count first last (check9-passes count first last ok) (check_entries-passes count first last ok) (judge (map_of count first last) (read s e p i)))
+      rw (order-open count first last (check9-passes count first last ok) (check_entries-passes count first last ok) (judge (map_of count first last) (read s (the_field e p i))))
 
   place-field : (s e p i : ℕ) → Field m s e p i → place_of count first last s e p i ≡ placed_in s (field_byte (entry m e) p i) (field_bit (entry m e) i)
   place-field s e p i f = rw (place-is s e p i, field-reads m g f) refl
@@ -97,9 +97,9 @@ module _ (count : ℕ) (first last : List ℕ) (ok : Accepted count first last) 
     at : (address_of s k).byte ≡ reg
 
   field-place : (s e p i k page reg q : ℕ) → place_of count first last s e p i ≡ placed_at k page reg q → At s e p i k page reg q
-  field-place s e p i k page reg q h = go (first_of (judge m (read s e p i))) refl (sym (place-is s e p i) ∙ h)
+  field-place s e p i k page reg q h = go (first_of (judge m (read s (the_field e p i)))) refl (sym (place-is s e p i) ∙ h)
     where
-      go : (v : Verdict) → first_of (judge m (read s e p i)) ≡ v → placed v (placed_in s (field_byte (entry m e) p i) (field_bit (entry m e) i)) ≡ placed_at k page reg q → At s e p i k page reg q
+      go : (v : Verdict) → first_of (judge m (read s (the_field e p i))) ≡ v → placed v (placed_in s (field_byte (entry m e) p i) (field_bit (entry m e) i)) ≡ placed_at k page reg q → At s e p i k page reg q
       go passes x y =
           let l = placed-same _ _ y in
           record { field = reads-field m g s e p i x; byte = l.0; bit = l.3; on = rw (← l.0) l.1; at = rw (← l.0) l.2 }

@@ -48,13 +48,13 @@ module _ (m : Map) (g : GoodMap m) where
   does-keeps : (c : Call) (b : Bank) → bank_size ≤ length b → Judged m c → Kept b (bank_does m c b).1
   unfolding bank_does with_number exists
   does-keeps (select s i a) b size j = let (hs, hi, hj, ha) = select-allowed m j in kept-set b (app_sel_at s i) a (app-inside s i hs hj)
-  does-keeps (write s e p i v) b size j = kept-put b s e p i _ (write-field m g j)
-  does-keeps (read s e p i) b size j = kept-self b
+  does-keeps (write s f v) b size j = kept-put b s f.entry f.part f.lane _ (write-field m g j)
+  does-keeps (read s f) b size j = kept-self b
   does-keeps (byte_write s k v) b size j =
       let (h₁, h₂) = and₂ (is_set s) (ltb k (length_of m s)) j.there in
       kept-set b (set_start s + k) _ (set-inside s k (named-has-bytes s (ltb→lt s 3 h₁)) (omega (arith, ltb→lt k (length_of m s) h₂, g.lengths s)))
   does-keeps (byte_read s k) b size j = kept-self b
-  does-keeps (publish e p i v) b size j = kept-put b 2 e p i _ (publish-field m j)
+  does-keeps (publish f v) b size j = kept-put b 2 f.entry f.part f.lane _ (publish-field m j)
   does-keeps (apply s lanes) b size j = kept-apply s lanes b size
 
 module _ (count : ℕ) (first last : List ℕ) (b : Bank) where

@@ -41,33 +41,33 @@ module _ (m : Map) where
   pub exists-says : (c : Call) → T (exists m c) ↔ Exists m c
   unfolding exists
   exists-says (select s i a) = set-and s (is_lane i) (lane-says i)
-  exists-says (write s e p i v) = set-and s (has_field m e p i) (has-field-says e p i)
-  exists-says (read s e p i) = set-and s (has_field m e p i) (has-field-says e p i)
+  exists-says (write s f v) = set-and s (has_field m f.entry f.part f.lane) (has-field-says f.entry f.part f.lane)
+  exists-says (read s f) = set-and s (has_field m f.entry f.part f.lane) (has-field-says f.entry f.part f.lane)
   exists-says (byte_write s k v) = set-and s (ltb k (length_of m s)) (lt-says k _)
   exists-says (byte_read s k) = set-and s (ltb k (length_of m s)) (lt-says k _)
-  exists-says (publish e p i v) = has-field-says e p i
+  exists-says (publish f v) = has-field-says f.entry f.part f.lane
   exists-says (apply s lanes) = lt-says s 3
 
   -- 11
   pub misdirected-says : (c : Call) → T (misdirected m c) ↔ Misdirected m c
   unfolding misdirected
   misdirected-says (select s i a) = eq-says s 2
-  misdirected-says (write s e p i v) = or-says (eqb s 2) (not (is_rw m e)) (eq-says s 2) (not-lt-says e m.rw_count)
-  misdirected-says (read s e p i) = and-says (is_staged s) (not (is_rw m e)) (lt-says s 2) (not-lt-says e m.rw_count)
+  misdirected-says (write s f v) = or-says (eqb s 2) (not (is_rw m f.entry)) (eq-says s 2) (not-lt-says f.entry m.rw_count)
+  misdirected-says (read s f) = and-says (is_staged s) (not (is_rw m f.entry)) (lt-says s 2) (not-lt-says f.entry m.rw_count)
   misdirected-says (byte_write s k v) = eq-says s 2
   misdirected-says (byte_read s k) = Iff.rfl
-  misdirected-says (publish e p i v) = lt-says e m.rw_count
+  misdirected-says (publish f v) = lt-says f.entry m.rw_count
   misdirected-says (apply s lanes) = eq-says s 2
 
   -- 12
   unaccepted-says : (c : Call) → T (unaccepted m c) ↔ Unaccepted m c
   unfolding unaccepted
   unaccepted-says (select s i a) = lt-says m.count a
-  unaccepted-says (write s e p i v) = not-says (accepts (entry m e) v) (accepts-says (entry m e) v)
-  unaccepted-says (read s e p i) = Iff.rfl
+  unaccepted-says (write s f v) = not-says (accepts (entry m f.entry) v) (accepts-says (entry m f.entry) v)
+  unaccepted-says (read s f) = Iff.rfl
   unaccepted-says (byte_write s k v) = Iff.rfl
   unaccepted-says (byte_read s k) = Iff.rfl
-  unaccepted-says (publish e p i v) = not-says (accepts (entry m e) v) (accepts-says (entry m e) v)
+  unaccepted-says (publish f v) = not-says (accepts (entry m f.entry) v) (accepts-says (entry m f.entry) v)
   unaccepted-says (apply s lanes) = Iff.rfl
 
   pub judge-says : (c : Call) → AllSay (judge m c) (call_rules m c)

@@ -141,11 +141,11 @@ module _ (m : Map) (b : Bank) (s lanes : ℕ) where
 pub plan-says : (m : Map) (c : Call) (b : Bank) → AllSay (bank_plan m c b) (plan_rules m c b)
 unfolding bank_plan
 plan-says m (select s i a) b = none
-plan-says m (write s e p i v) b = none
-plan-says m (read s e p i) b = none
+plan-says m (write s f v) b = none
+plan-says m (read s f) b = none
 plan-says m (byte_write s k v) b = none
 plan-says m (byte_read s k) b = none
-plan-says m (publish e p i v) b = none
+plan-says m (publish f v) b = none
 plan-says m (apply s lanes) b =
     also
     (lowest-says (bank_lacks_app m b s lanes) (LacksApp m b s lanes) (lacks-says m b s lanes) 13)

@@ -10,7 +10,7 @@ use native.Mathlib.Omega.{arith}
 use lib.IntN.{ℤ}
 use lib.ListN.{length}
 use lib.Dec.{T, ltb, eqb, ltb→lt, lt→ltb}
-use Rattle.rules.specs.Words.{Refusal, plain, Loaded, Call, select, write, read, byte_write, byte_read, publish, apply, says_yes, number}
+use Rattle.rules.specs.Words.{Refusal, plain, Loaded, Call, select, write, read, byte_write, byte_read, publish, apply, the_field, says_yes, number}
 use Rattle.rules.specs.Load.{sized, strings_of, load_of, Map, map_of, read_of}
 use Rattle.rules.specs.Place.{entry, is_set, is_lane, length_of, field_byte, field_bit, Owner, field, gap, owner_of}
 use Rattle.rules.specs.Accept.{weight_of}
@@ -55,11 +55,11 @@ number-answers n x h = let o : ◌≡◌ {A = ℕ} 0 1 = cc in omega arith
 pub does-answers : (m : Map) (c : Call) (b : Bank) (x : Refusal) → ¬ ((bank_does m c b).0 ≡ Err x)
 unfolding bank_does
 does-answers m (select s i a) b x = yes-answers x
-does-answers m (write s e p i v) b x = yes-answers x
-does-answers m (read s e p i) b x = number-answers _ x
+does-answers m (write s f v) b x = yes-answers x
+does-answers m (read s f) b x = number-answers _ x
 does-answers m (byte_write s k v) b x = yes-answers x
 does-answers m (byte_read s k) b x = number-answers _ x
-does-answers m (publish e p i v) b x = yes-answers x
+does-answers m (publish f v) b x = yes-answers x
 does-answers m (apply s lanes) b x = yes-answers x
 
 -- the owner of a bit is a field or a gap
@@ -91,11 +91,11 @@ module _ (count : ℕ) (first last : List ℕ) where
   pub place-says :
       (s e p i : ℕ) (x : Refusal)
       → (place_of count first last s e p i ≡ Err x)
-      ↔ First (string_rules count first last (call_rules m (read s e p i))) x
+      ↔ First (string_rules count first last (call_rules m (read s (the_field e p i)))) x
   unfolding place_of
   place-says s e p i =
       answer-says Err (λ x y h. cc) (λ v. placed v (placed_in s (field_byte (entry m e) p i) (field_bit (entry m e) i))) (λ r. refl) _
-      (order-says count first last (judge-says m (read s e p i)))
+      (order-says count first last (judge-says m (read s (the_field e p i))))
       (λ _ x h. let o : ◌≡◌ {A = ℕ} 0 1 = cc in omega arith)
 
   pub owner-says :

@@ -7,7 +7,7 @@ use Prim.Native.Nat.{ℕ, ◌+◌}
 use native.Mathlib.Omega.{arith}
 use lib.IntN.{pos, negsuc}
 use lib.ListN.{take, replicate, length-replicate}
-use Rattle.rules.specs.Words.{plain, at_lane, State, accepted, Call, select, write, read, byte_write, byte_read, publish, apply, Answer, says_yes, number, placed_at, owned_by, Refusal}
+use Rattle.rules.specs.Words.{plain, at_lane, State, accepted, Call, select, write, read, byte_write, byte_read, publish, apply, the_field, Answer, says_yes, number, placed_at, owned_by, Refusal}
 use Rattle.rules.specs.Numbers.{sum, any, lowest}
 use Rattle.rules.specs.Parameter.{row_of}
 use Rattle.rules.specs.Descriptor.{mask_bytes, high_first, codes_of, byte_of, refuse, length_checks, content_checks, unlimited, decode_within}
@@ -50,11 +50,11 @@ abbrev calls : List Call
 calls =
     -- lane 3 uses application 2
     select 0 3 2
-    ∷ write 0 0 0 3 (pos 1)
+    ∷ write 0 (the_field 0 0 3) (pos 1)
     -- a code out of the mask, a field that 13h hasn't, an RO entry in a staged set, a lane that isn't there
-    ∷ write 0 2 0 3 (pos 4)
-    ∷ write 0 1 0 1 (pos 0)
-    ∷ write 0 4 0 1 (pos 0)
+    ∷ write 0 (the_field 2 0 3) (pos 4)
+    ∷ write 0 (the_field 1 0 1) (pos 0)
+    ∷ write 0 (the_field 4 0 1) (pos 0)
     ∷ select 0 9 1
     -- 04h: 3 in lane 3 and, not accepted but stored, 9 in lane 4
     ∷ byte_write 0 4 0x93
@@ -66,24 +66,24 @@ calls =
     ∷ apply 0 0x0C
     ∷ select 0 4 1
     ∷ apply 0 0x0C
-    ∷ write 0 2 0 4 (pos 2)
+    ∷ write 0 (the_field 2 0 4) (pos 2)
     ∷ apply 0 0x0C
     -- AppSel 2 lacks 04h, so its lane 3 stays 0
     ∷ byte_read 2 4
-    ∷ read 2 0 0 3
+    ∷ read 2 (the_field 0 0 3)
     -- 0Dh: above Max, then −128, which is below Min, and −14
-    ∷ write 0 3 0 3 (pos 1)
+    ∷ write 0 (the_field 3 0 3) (pos 1)
     ∷ byte_write 0 10 0x80
-    ∷ read 0 3 0 3
+    ∷ read 0 (the_field 3 0 3)
     ∷ apply 0 0x0C
-    ∷ write 0 3 0 3 (negsuc 13)
+    ∷ write 0 (the_field 3 0 3) (negsuc 13)
     ∷ apply 0 0x0C
     ∷ byte_read 2 10
-    ∷ read 2 3 0 3
-    ∷ publish 4 0 5 (negsuc 13)
+    ∷ read 2 (the_field 3 0 3)
+    ∷ publish (the_field 4 0 5) (negsuc 13)
     ∷ byte_read 2 20
-    ∷ read 2 4 0 5
-    ∷ publish 0 0 1 (pos 0)
+    ∷ read 2 (the_field 4 0 5)
+    ∷ publish (the_field 0 0 1) (pos 0)
     ∷ []
 
 abbrev answers : List (Result Answer Refusal)
@@ -155,7 +155,7 @@ example-width = refl
 
 pub example-told :
     (owner_at_call 2 rw_string ro_string 2 0x19 152 7 ≡ owned_by 4 0 6 5)
-    × ((bank_call 2 rw_string ro_string (read 2 4 0 6) (bank_run 2 rw_string ro_string bank (map call calls)).1).0 ≡ number ((table_run 2 rw_string ro_string (map call calls)).1.numbers 2 4 0 6))
+    × ((bank_call 2 rw_string ro_string (read 2 (the_field 4 0 6)) (bank_run 2 rw_string ro_string bank (map call calls)).1).0 ≡ number ((table_run 2 rw_string ro_string (map call calls)).1.numbers 2 4 0 6))
 example-told =
     let (owner, reads) = (told-after-fresh 2 rw_string ro_string bank example-fresh (map call calls)).field 2 4 0 6 21 0x19 152 0 example-placed in
     (owner 7 (λ z. omega arith) (omega arith) (omega (arith, example-width)), reads)

@@ -9,4 +9,4 @@ abbrev pub invariant-loop-part : goal.invariant-loop-part
 invariant-loop-part g l =
     (t : ℕ → Bool)
     → ((bits : ℕ) (v : Bool) → bits < 2 ^ g.row.WIDTH → goal.F-post g l.test bits v → v ≡ t bits)
-    → Lanes 9 (λ i. any l.part-counter λ p. t (bits_at l.bank l.set l.f.offset p l.f.width i)) l.lanes
+    → Lanes 9 (λ i. any l.part-counter λ p. t (bits_at l.chosen.bank.now l.chosen.set l.f.offset p l.f.width i)) l.lanes

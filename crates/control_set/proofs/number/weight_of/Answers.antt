@@ -1,5 +1,5 @@
 -- `weight_of` meets its contract.
-use mathlib.Core.Path.{◌≡◌, ◌∙◌}
+use Rattle.std.proofs.Common.{◌≡◌, ◌∙◌, rules, arith}
 use lib.IntN.{pos}
 use mir.Syntax.{w64}
 use mir.Val.{to_z, of_z}
@@ -13,4 +13,6 @@ pub returns : goal.returns
 unfolding weight_of
 returns c =
     let scaled : to_z w64 (of_z w64 c.scale.result) ≡ pos (thousandths c.args.step) = to_z-of_z {w = w64} (record { sfits = c.scale.type_inv }) ∙ c.scale.ensures in
-    rw (to_z-of_z c.ranges.value, scaled) (to_z-of_z (weight-fits c.args.step c.args.value c.requires))
+    let plain : to_z w64 (of_z w64 c.from.result) ≡ c.from.result = search rules in
+    rw (plain, c.from.ensures, to_z-of_z c.ranges.value, scaled)
+    (to_z-of_z (weight-fits c.args.step c.args.value (omega (arith, c.ranges.value.sfits))))

@@ -10,8 +10,8 @@ use Rattle.descriptor.proofs.Descriptors.entry_bytes.Goals.{In-Ok}
 span : (c : In-Ok) →
     let g = c.args in
     let x = c.in-Ok.found in
-    Span (cond x.ro g.self.ro.now g.self.rw.now) x.start x.length (entry_bytes g.self.count g.self.rw.now g.self.ro.now g.entry)
-span c = let g = c.args in located-span g.self.count g.self.rw.now g.self.ro.now g.entry _ _ _ _ (sym c.in-Ok.ensures)
+    Span (cond x.ro g.self.ro.now g.self.rw.now) x.mark.at x.length (entry_bytes g.self.count g.self.rw.now g.self.ro.now g.entry)
+span c = let g = c.args in located-span g.self.count g.self.rw.now g.self.ro.now g.entry _ _ _ (sym c.in-Ok.ensures)
 
 -- one of the two strings has it
 either-has : (x : Bool) (l r : List ℕ) (n : ℕ) → n ≤ length (cond x l r) → (n ≤ length l) ⊎ (n ≤ length r)

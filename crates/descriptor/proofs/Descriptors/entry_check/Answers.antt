@@ -5,7 +5,7 @@ use Rattle.descriptor.proofs.Locates.{located-yes, located-no}
 use Rattle.descriptor.proofs.Descriptors.entry_check.Goals as goal
 
 pub returns : goal.returns
-returns c = let g = c.args in located-yes g.self.count g.self.rw.now g.self.ro.now g.entry _ _ _ _ (sym c.in_ok-locate.ensures)
+returns c = let g = c.args in located-yes g.self.count g.self.rw.now g.self.ro.now g.entry _ _ _ (sym c.in_ok-locate.ensures)
 
 pub returns-in_err-locate : goal.returns-in_err-locate
 returns-in_err-locate c =

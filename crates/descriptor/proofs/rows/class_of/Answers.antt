@@ -2,7 +2,7 @@
 use Rattle.std.proofs.Common.{◌≡◌, refl, ◌∙◌}
 use Rattle.descriptor.specs.Rows.{class_of}
 use Rattle.descriptor.proofs.TableRows.{class-small}
-use Rattle.descriptor.proofs.Shapes.{class-table}
+use Rattle.descriptor.proofs.LentRows.{class-table}
 use Rattle.descriptor.proofs.rows.class_of.Goals as goal
 
 pub returns : goal.returns

@@ -9,4 +9,4 @@ use Rattle.descriptor.proofs.text.put_refused.Goals as goal
 pub returns : goal.returns
 unfolding refused_line
 returns c =
-    printed (adds-then c.push_text.ensures (rw c.number_of.ensures at c.line.ensures)) (omega arith) (omega arith) refl (search rules)
+    printed (adds-then c.push_text.ensures (rw c.number.ensures at c.line.ensures)) (omega arith) (omega arith) refl (search rules)

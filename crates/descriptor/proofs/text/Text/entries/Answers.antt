@@ -27,7 +27,6 @@ entry-requires-clause-printable c =
     let p = c.args.walk.ready in
     record {
       inside = omega (arith, e.within, e.long, p.mask-low);
-      short = p.short;
       number = omega (arith, e.few, c.loop-from.invariant.0.few);
       sum = omega (arith, c.loop-from.invariant.0.sum);
     }
