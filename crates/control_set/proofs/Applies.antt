@@ -41,7 +41,6 @@ use Rattle.rules.proofs.Refusals.CallOrder.{call-refused, call-does, judge-ok}
 use Rattle.rules.proofs.Refusals.Orders.{bank-order-accepted}
 use Rattle.rules.proofs.Refusals.PlanRules.{is-copied}
 use Rattle.descriptor.proofs.EntryReads.{mark-on, read-is, read-entry}
-use Rattle.descriptor.proofs.Marks.{Marked, marked}
 use Rattle.control_set.specs.declared.chosen.Chosen.{Chosen}
 use Rattle.control_set.specs.Field.{bits_at}
 use Rattle.control_set.specs.Gate.{Opened}

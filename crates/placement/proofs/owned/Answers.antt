@@ -1,11 +1,10 @@
 -- `owned` meets its contract: 10 of the set, then of the bit, or the field that has the bit.
-use Rattle.std.proofs.Common.{◌≡◌, refl, sym, ap, ◌∙◌, Bool, true, false, ◌&&◌, not, cond, Err}
+use Rattle.std.proofs.Common.{◌≡◌, refl, ap, ◌∙◌, Bool, true, false, ◌&&◌, not, Err}
 use Rattle.std.proofs.lemmas.Bool.{lt-ltb, le-ltb}
 use lib.Dec.{ltb}
 use Rattle.rules.specs.Place.{is_set, is_staged}
 use Rattle.rules.proofs.Basics.Results.{handed-on}
 use Rattle.descriptor.proofs.Sets.{spaced-passed, spaced-refused}
-use Rattle.placement.specs.Owner.{owned_from}
 use Rattle.placement.proofs.owned.Goals as goal
 
 -- a test behind two others

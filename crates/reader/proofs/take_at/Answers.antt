@@ -1,11 +1,11 @@
 -- `take_at` meets its contract.
-use Rattle.std.proofs.Common.{◌≡◌, refl, sym, ap, ◌∙◌, ℕ, ◌<◌, length, Err, arith}
+use Rattle.std.proofs.Common.{refl, sym, ap, ◌∙◌, Err, arith}
 use Rattle.std.proofs.lemmas.Bool.{lt-ltb, le-ltb}
-use Rattle.rules.specs.Descriptor.{mask_bytes, entry_at}
+use Rattle.rules.specs.Descriptor.{mask_bytes}
 use Rattle.rules.specs.Reader.{taken_of, take_of}
 use Rattle.rules.proofs.Basics.Results.{handed-on}
 use Rattle.descriptor.proofs.Limits.{limits-passed, limits-refused}
-use Rattle.descriptor.proofs.Lengths.{Measured, Refused, length-refused, read-passed, read-refused}
+use Rattle.descriptor.proofs.Lengths.{Measured, length-refused, read-passed, read-refused}
 use Rattle.reader.proofs.take_at.Goals as goal
 use Rattle.reader.proofs.take_at.Goals.{In_ok-length}
 

@@ -1,5 +1,5 @@
 -- `check_size` meets its contract.
-use Rattle.std.proofs.Common.{subst, sym, arith}
+use Rattle.std.proofs.Common.{arith}
 use Rattle.rules.proofs.Bank.Places.{size-is}
 use Rattle.rules.proofs.Refusals.CallOrder.{bank-order-9, bank-order-8}
 use Rattle.rules.proofs.Basics.Results.{handed-on}

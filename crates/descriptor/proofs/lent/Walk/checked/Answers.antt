@@ -1,5 +1,5 @@
 -- `checked` meets its contract: 1 and 2 are those of one entry, and `content` does the rest.
-use Rattle.std.proofs.Common.{◌≡◌, refl, sym, ◌∙◌, ap, ◌+◌, arith}
+use Rattle.std.proofs.Common.{refl, sym, ◌∙◌, ap, arith}
 use Rattle.rules.specs.Descriptor.{byte_at, entry_at, refuse, content_checks, decode_within}
 use Rattle.rules.proofs.Basics.Results.{handed-on}
 use Rattle.descriptor.specs.Counts.{alone}
