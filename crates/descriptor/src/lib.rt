@@ -1,5 +1,5 @@
 // Reading: the load of both descriptor strings, where an entry stands, and an entry's own bytes.
-// A byte is widened by `as`, here and in all crates: `usize::from` is no plainer, and a proof has to be told its value.
+// A byte is widened to a `usize` by `as`, here and in all crates but in `state.rt`: `usize::from` is no plainer, and most proofs have to be told its value.
 #![tactic(auto)]
 
 ghost use Rattle.std.specs.Prelude.{cond, true, ◌≡◌, ◌++◌, ◌+◌, ◌≤◌, length, drop};

@@ -56,7 +56,7 @@ impl Walk<'_> {
     }
 
     // The first of n entries of the string whose space ends past a byte. Every entry that is looked at is counted, with those looked at before, by
-    // a counter that is lent (document 01's form). It is told of no entry behind that first one.
+    // a counter that is lent, since it goes on from one string to the other; `cover` answers it. It is told of no entry behind that first one.
     #[tactic(auto, unfolding(crate::specs::Marks::mark_after))]
     pub fn look(self, sum: usize, n: usize, offset: usize, looked: &mut usize) -> Option<Hit>
         requires { Reachable self.a self.s.now sum n offset × (sum ≤ offset) × (looked.old + n ≤ 2 * entry_limit) }

@@ -1,4 +1,4 @@
--- `mask_at` meets its contract.
+-- `EntryAt::mask` meets its contract.
 use mathlib.Core.Path.{sym, ◌∙◌}
 use Prim.Native.Nat.{◌+◌}
 use Rattle.rules.proofs.Load.Checks.{high-one}

@@ -1,4 +1,4 @@
--- `patterns_at` meets its contract.
+-- `EntryAt::patterns` meets its contract.
 use Rattle.std.proofs.Common.{◌≡◌, refl, sym, ap, ◌∙◌, ℕ, ◌+◌, List, false}
 use lib.Dec.{eqb}
 use Rattle.descriptor.specs.declared.Accepted.{Accepted}

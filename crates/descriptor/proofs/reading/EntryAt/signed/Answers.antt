@@ -1,4 +1,4 @@
--- `signed_from` meets its contract.
+-- `EntryAt::signed` meets its contract.
 use Rattle.std.proofs.Common.{◌≡◌, rules}
 use mir.Syntax.{w8, w64}
 use mir.Val.{to_z, of_z}
